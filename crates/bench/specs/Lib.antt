@@ -4,3 +4,7 @@ pub mod Reading
 pub mod Sight
 pub mod Numbers
 pub mod Actions
+pub mod States
+pub mod Responds
+pub mod Respond
+pub mod Laws

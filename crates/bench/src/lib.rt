@@ -3,8 +3,10 @@
 
 pub mod action;
 pub mod angle;
+pub mod bench;
 pub mod fault;
 pub mod feeder;
+pub mod laws;
 pub mod nozzle;
 pub mod refusal;
 pub mod request;
@@ -14,6 +16,7 @@ pub mod state;
 
 pub use action::Action;
 pub use angle::Angle;
+pub use bench::Bench;
 pub use fault::Fault;
 pub use feeder::Feeder;
 pub use nozzle::Nozzle;

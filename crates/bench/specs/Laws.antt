@@ -1,0 +1,29 @@
+-- What is claimed of the request rules.
+use mathlib.Core.Path.{_≡_}
+use lib.IntN.{ℤ}
+use Rattle.std.specs.declared.result.Result.the-variants.{Err}
+use Rattle.bench.specs.Responds.{Answer, Responds}
+use Rattle.bench.specs.Respond.{Outcome, respond}
+use Rattle.bench.specs.States.{Valid}
+use Rattle.bench.specs.declared.fault.Fault.{Fault}
+use Rattle.bench.specs.declared.state.State.{State}
+
+-- something has the property, and nothing else has
+abbrev pub Exactly-one : {X : Type 0} → (X → Type 0) → Type 0
+Exactly-one {X} P = (x : X) × P x × ((y : X) → P y → y ≡ x)
+
+-- each request has exactly one answer and one state left
+abbrev pub One-response : Type 0
+One-response = (s : State) (op y : ℤ) → Exactly-one (λ (o : Outcome). Responds s op y (o .0) (o .1))
+
+-- they are those of the function
+abbrev pub Respond-responds : Type 0
+Respond-responds = (s : State) (op y : ℤ) → Responds s op y (respond s op y .0) (respond s op y .1)
+
+-- a valid state is left valid
+abbrev pub Stays-valid : Type 0
+Stays-valid = (s : State) (op y : ℤ) (r : Answer) (t : State) → Valid s → Responds s op y r t → Valid t
+
+-- a fault changes nothing
+abbrev pub Fault-keeps : Type 0
+Fault-keeps = (s : State) (op y : ℤ) (f : Fault) (t : State) → Responds s op y (Err f) t → t ≡ s
