@@ -2,3 +2,4 @@ pub mod Ranges
 pub mod Reading
 pub mod Rules
 pub mod Validity
+pub mod Lists

@@ -8,3 +8,5 @@ pub mod States
 pub mod Responds
 pub mod Respond
 pub mod Laws
+pub mod SetUps
+pub mod Lists
