@@ -8,6 +8,7 @@ use Rattle.bench.specs.Ranges.{to-angle}
 use Rattle.bench.specs.declared.angle.Angle.{Angle}
 use Rattle.bench.specs.declared.spot.Spot.{Spot}
 use Rattle.bench.specs.declared.spot.Spot.the-variants.{Free, Taken}
+use Rattle.bench.specs.declared.state.State.{State}
 
 abbrev pub reading : ℕ → ℕ → ℕ
 reading z a = (z + full-turn - a) % full-turn
@@ -21,3 +22,7 @@ read-under z a = to-angle (reading (z .hundredths) (a .hundredths)) (reading-bel
 abbrev pub spot-under : Angle → Spot → Spot
 spot-under z Free = Free
 spot-under z (Taken f a) = Taken f (read-under z a)
+
+-- a state with every angle read so, those of the placed parts included
+abbrev pub state-under : Angle → State → State
+state-under z s = record { site = s .site; angle = read-under z (s .angle); nozzle = s .nozzle; counts = s .counts; bin = s .bin; sites = map (spot-under z) (s .sites) }
