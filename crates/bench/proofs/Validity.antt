@@ -3,6 +3,7 @@ use mathlib.Core.Path.{_≡_, refl, sym, ap, subst, _∙_}
 use mathlib.Core.Logic.{_⊎_, inl, inr}
 use mathlib.Core.List.{List}
 use Prim.Native.Nat.{ℕ, suc, _+_, _*_, _≤_, _<_}
+use native.Mathlib.Bridge.{le-prop}
 use native.Mathlib.Omega.{arith}
 use lib.IntN.{ℤ}
 use lib.ListN.{length, getD, set, replicate}
@@ -11,8 +12,10 @@ use Rattle.std.proofs.shelf.Elements.{all-from-getD}
 use Rattle.std.proofs.shelf.Lists.{length-set, getD-set-same, getD-set-other}
 use Rattle.std.proofs.shelf.Sums.{sumBy-set, sumBy-le}
 use Rattle.std.proofs.shelf.Tests.{cases-eq}
-use Rattle.bench.specs.Bounds.{site-count, feeder-count, most-in-feeder, most-parts}
+use Rattle.bench.specs.Bounds.{site-count, feeder-count, most-in-feeder, most-parts, full-turn}
+use Rattle.bench.specs.Ranges.{to-site, to-angle}
 use Rattle.bench.specs.Laws.{Stays-valid}
+use Rattle.bench.specs.Respond.{respond}
 use Rattle.bench.specs.Responds.{Responds}
 use Rattle.bench.specs.Responds.Responds.{moves, moves-nowhere, turns, turns-nowhere, picks, picks-nowhere, picks-twice, picks-none, places, places-none, places-twice, looks, looks-nowhere, drops, drops-none, unknown}
 use Rattle.bench.specs.States.{Valid, in-nozzle, on-spot, fresh, at-site, at-angle, picked, placed, dropped}
@@ -20,6 +23,7 @@ use Rattle.bench.specs.declared.feeder.Feeder.{Feeder}
 use Rattle.bench.specs.declared.nozzle.Nozzle.the-variants.{Empty, Holding}
 use Rattle.bench.specs.declared.spot.Spot.the-variants.{Free, Taken}
 use Rattle.bench.specs.declared.state.State.{State}
+use Rattle.bench.proofs.Rules.{respond-responds}
 
 -- a bound on every entry stays where one entry is replaced by another in bounds
 pub bound-set : (xs : List ℕ) (i n m v : ℕ) → i < length xs → v ≤ m → ((k : ℕ) → k < n → getD xs k 0 ≤ m) → (k : ℕ) → k < n → getD (set xs i v) k 0 ≤ m
@@ -75,8 +79,19 @@ stays-valid s op y r t v (drops {f} e) = drop-valid s f v e
 stays-valid s op y r t v (drops-none e) = v
 stays-valid s op y r t v (unknown h) = v
 
+-- the same, for the state that the function of the rules leaves
+pub left-valid : (s : State) (op y : ℤ) (t : State) → Valid s → t ≡ respond s op y .1 → Valid t
+left-valid s op y t v e = subst Valid (sym e) (stays-valid s op y (respond s op y .0) (respond s op y .1) v (respond-responds s op y))
+
 pub fresh-valid : (ns : List ℕ) → length ns ≡ feeder-count → ((k : ℕ) → k < feeder-count → getD ns k 0 ≤ most-in-feeder) → Valid (fresh ns)
 fresh-valid ns e h = record {
       eight = e; counted = h; sites-all = refl;
       few = omega (arith, sumBy-le (λ x. x) most-in-feeder ns (all-from-getD (λ x. x ≤ most-in-feeder) ns 0 (λ k hk. h k (omega arith))), ap (λ n. n * most-in-feeder) e);
     }
+
+-- a new bench is one, however its site and its angle are seen to be in range
+abbrev new-at : List ℕ → (p : 0 < site-count) (a : 0 < full-turn) → State
+new-at ns p a = record { site = to-site 0 p; angle = to-angle 0 a; nozzle = Empty; counts = ns; bin = 0; sites = replicate site-count Free }
+
+pub fresh-is : (ns : List ℕ) (p : 0 < site-count) (a : 0 < full-turn) → new-at ns p a ≡ fresh ns
+fresh-is ns p a = ap (λ q. new-at ns q a) (le-prop p _) ∙ ap (new-at ns _) (le-prop a _)
