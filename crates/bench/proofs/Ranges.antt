@@ -33,3 +33,31 @@ pub ranged-out : {X : Type 0} (n : ℕ) (f : (k : ℕ) → k < n → X) (y : ℤ
 ranged-out n f (pos k) (inl h) = absurd (omega (arith, ints, h))
 ranged-out n f (pos k) (inr h) = tested-out n k (f k) (omega (arith, ints, h)) (ltb k n) refl
 ranged-out n f (negsuc k) h = refl
+
+-- y is a number below n, of which f makes something, or lies outside
+pub data Ranging {X : Type 0} (n : ℕ) (f : (k : ℕ) → k < n → X) : ℤ → Option X → Type 0 where
+  inside : (k : ℕ) (h : k < n) → Ranging n f (pos k) (Some (f k h))
+  outside : {y : ℤ} → Outside n y → Ranging n f y None
+
+ranging-if : {X : Type 0} (n : ℕ) (f : (k : ℕ) → k < n → X) (k : ℕ) (b : Bool) (e : ltb k n ≡ b) → Ranging n f (pos k) (tested n k (f k) b e)
+ranging-if n f k true e = inside k _
+ranging-if n f k false e = let h : n ≤ k = ltb-false k n e in outside (inr (omega (arith, ints)))
+
+pub ranging : {X : Type 0} (n : ℕ) (f : (k : ℕ) → k < n → X) (y : ℤ) → Ranging n f y (ranged n f y)
+ranging n f (pos k) = ranging-if n f k (ltb k n) refl
+ranging n f (negsuc k) = outside (inl (omega (arith, ints)))
+
+-- what a number in range makes, it makes of itself
+ranging-some : {X : Type 0} (n : ℕ) (f : (k : ℕ) → k < n → X) (y : ℤ) (o : Option X) (x : X) → Ranging n f y o → o ≡ Some x → (k : ℕ) × (h : k < n) × (y ≡ pos k) × (f k h ≡ x)
+ranging-some n f y o x (inside k h) e = (k, h, refl, cc)
+ranging-some n f y o x (outside h) e = let z : _≡_ {A = ℕ} 0 1 = cc in absurd (omega arith)
+
+pub ranged-some : {X : Type 0} (n : ℕ) (f : (k : ℕ) → k < n → X) (y : ℤ) (x : X) → ranged n f y ≡ Some x → (k : ℕ) × (h : k < n) × (y ≡ pos k) × (f k h ≡ x)
+ranged-some n f y x e = ranging-some n f y (ranged n f y) x (ranging n f y) e
+
+ranging-none : {X : Type 0} (n : ℕ) (f : (k : ℕ) → k < n → X) (y : ℤ) (o : Option X) → Ranging n f y o → o ≡ None → Outside n y
+ranging-none n f y o (inside k h) e = let z : _≡_ {A = ℕ} 0 1 = cc in absurd (omega arith)
+ranging-none n f y o (outside h) e = h
+
+pub ranged-none : {X : Type 0} (n : ℕ) (f : (k : ℕ) → k < n → X) (y : ℤ) → ranged n f y ≡ None → Outside n y
+ranged-none n f y e = ranging-none n f y (ranged n f y) (ranging n f y) e

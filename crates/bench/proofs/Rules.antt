@@ -1,10 +1,8 @@
 -- The rules and their function agree; so each request has exactly one response.
 use mathlib.Core.Path.{_≡_, refl, sym, ap, subst, _∙_}
 use mathlib.Core.Logic.{inl, inr}
-use mathlib.Core.Bool.{Bool, true, false}
 use Prim.Native.Nat.{ℕ, zero, suc, _≤_, _<_}
 use native.Mathlib.Omega.{arith}
-use lib.Dec.{ltb}
 use lib.IntN.{ℤ, pos, negsuc}
 use lib.ListN.{getD}
 use Rattle.std.specs.declared.option.Option.{Option}
@@ -12,9 +10,8 @@ use Rattle.std.specs.declared.option.Option.the-variants.{Some, None}
 use Rattle.std.specs.declared.result.Result.{Result}
 use Rattle.std.specs.declared.result.Result.the-variants.{Ok, Err}
 use Rattle.std.proofs.shelf.Signed.{ints}
-use Rattle.std.proofs.shelf.Tests.{ltb-false}
 use Rattle.bench.specs.Bounds.{site-count, feeder-count, full-turn}
-use Rattle.bench.specs.Ranges.{Outside, tested, ranged, to-site, to-angle, to-feeder, site-at, angle-at, feeder-at}
+use Rattle.bench.specs.Ranges.{Outside, ranged, to-site, to-angle, to-feeder, site-at, angle-at, feeder-at}
 use Rattle.bench.specs.Actions.{on, numbered, action-of}
 use Rattle.bench.specs.Respond.{Outcome, pick-into, place-on, drop-from, perform, attempt, respond}
 use Rattle.bench.specs.Responds.{Answer, Responds}
@@ -32,7 +29,8 @@ use Rattle.bench.specs.declared.site.Site.{Site}
 use Rattle.bench.specs.declared.spot.Spot.{Spot}
 use Rattle.bench.specs.declared.spot.Spot.the-variants.{Free, Taken}
 use Rattle.bench.specs.declared.state.State.{State}
-use Rattle.bench.proofs.Ranges.{ranged-in, ranged-out}
+use Rattle.bench.proofs.Ranges.{ranged-in, ranged-out, Ranging, ranging}
+use Rattle.bench.proofs.Ranges.Ranging.{inside, outside}
 
 -- a request whose number is in range is tried; one whose number is not gets its fault
 attempt-in : {X : Type 0} (s : State) (act : X → Action) (e : Fault) (n : ℕ) (f : (k : ℕ) → k < n → X) (k : ℕ) (h : k < n) → attempt s (on act e (ranged n f (pos k))) ≡ perform s (act (f k h))
@@ -73,19 +71,6 @@ by-rule s op y r t (looks-nowhere h) = attempt-out s Look NoSite site-count to-s
 by-rule s op y r t (drops e) = cc
 by-rule s op y r t (drops-none e) = cc
 by-rule s op y r t (unknown h) = ap (attempt s) (no-action op y h)
-
--- y is a number below n, of which f makes something, or lies outside
-data Ranging {X : Type 0} (n : ℕ) (f : (k : ℕ) → k < n → X) : ℤ → Option X → Type 0 where
-  inside : (k : ℕ) (h : k < n) → Ranging n f (pos k) (Some (f k h))
-  outside : {y : ℤ} → Outside n y → Ranging n f y None
-
-ranging-if : {X : Type 0} (n : ℕ) (f : (k : ℕ) → k < n → X) (k : ℕ) (b : Bool) (e : ltb k n ≡ b) → Ranging n f (pos k) (tested n k (f k) b e)
-ranging-if n f k true e = inside k _
-ranging-if n f k false e = let h : n ≤ k = ltb-false k n e in outside (inr (omega (arith, ints)))
-
-ranging : {X : Type 0} (n : ℕ) (f : (k : ℕ) → k < n → X) (y : ℤ) → Ranging n f y (ranged n f y)
-ranging n f (pos k) = ranging-if n f k (ltb k n) refl
-ranging n f (negsuc k) = outside (inl (omega (arith, ints)))
 
 abbrev Follows : State → ℤ → ℤ → Outcome → Type 0
 Follows s op y o = Responds s op y (o .0) (o .1)

@@ -1,3 +1,4 @@
 pub mod Laid
 pub mod SetUp
 pub mod Stands
+pub mod Turned

@@ -4,6 +4,7 @@
 pub mod inspect;
 pub mod log_bench;
 pub mod site_bench;
+pub mod turned_bench;
 
 mod entries;
 mod head;
@@ -14,3 +15,4 @@ mod sites;
 pub use inspect::Inspect;
 pub use log_bench::LogBench;
 pub use site_bench::SiteBench;
+pub use turned_bench::TurnedBench;
