@@ -3,3 +3,4 @@ pub mod Reading
 pub mod Rules
 pub mod Validity
 pub mod Lists
+pub mod SetUps

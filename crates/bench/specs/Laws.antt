@@ -1,11 +1,20 @@
--- What is claimed of the request rules.
+-- What is claimed of the rules of a bench.
 use mathlib.Core.Path.{_≡_}
+use mathlib.Core.List.{List}
 use lib.IntN.{ℤ}
+use lib.ListN.{length}
+use Rattle.std.specs.declared.result.Result.{Result}
 use Rattle.std.specs.declared.result.Result.the-variants.{Err}
-use Rattle.bench.specs.Responds.{Answer, Responds}
+use Rattle.bench.specs.Bounds.{feeder-count}
+use Rattle.bench.specs.Reading.{reading, read-under}
 use Rattle.bench.specs.Respond.{Outcome, respond}
+use Rattle.bench.specs.Responds.{Answer, Responds}
+use Rattle.bench.specs.SetUps.{SetsUp, TurnsBy}
 use Rattle.bench.specs.States.{Valid}
+use Rattle.bench.specs.declared.angle.Angle.{Angle}
 use Rattle.bench.specs.declared.fault.Fault.{Fault}
+use Rattle.bench.specs.declared.refusal.SetUpRefusal.{SetUpRefusal}
+use Rattle.bench.specs.declared.refusal.ShiftRefusal.{ShiftRefusal}
 use Rattle.bench.specs.declared.state.State.{State}
 
 -- something has the property, and nothing else has
@@ -27,3 +36,18 @@ Stays-valid = (s : State) (op y : ℤ) (r : Answer) (t : State) → Valid s → 
 -- a fault changes nothing
 abbrev pub Fault-keeps : Type 0
 Fault-keeps = (s : State) (op y : ℤ) (f : Fault) (t : State) → Responds s op y (Err f) t → t ≡ s
+
+-- a set-up with eight counts, and a turn by a number, has exactly one outcome
+abbrev pub One-set-up : Type 0
+One-set-up = (counts : List ℤ) → length counts ≡ feeder-count → Exactly-one (λ (o : Result (Unit {0}) SetUpRefusal × State). SetsUp counts (o .0) (o .1))
+
+abbrev pub One-turn : Type 0
+One-turn = (z : ℤ) → Exactly-one (λ (o : Result (Unit {0}) ShiftRefusal × Angle). TurnsBy z (o .0) (o .1))
+
+-- an angle that is read twice under one shift is as it was
+abbrev pub Read-twice : Type 0
+Read-twice = (z a : Angle) → read-under z (read-under z a) ≡ a
+
+-- under a shift of 90 degrees, 270 degrees read as 180
+abbrev pub Worked-reading : Type 0
+Worked-reading = reading 9000 27000 ≡ 18000
