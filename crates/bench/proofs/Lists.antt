@@ -62,3 +62,11 @@ pub serves-all : (f : Replies → Answer) (qs : List Request) (slots : List Repl
 serves-all f qs slots i n s t e long h =
     subst (λ l. Serves s l (map f (take (length qs) slots)) t) (all-given qs i n e)
       (subst (λ l. Serves s (take i qs) (map f l) t) (all-given slots i (length qs) (omega arith)) h)
+
+-- one bench that is given the same requests twice, from one state
+pub same-serves : (s t t′ : State) (qs : List Request) (rs rs′ : List Answer) → Serves s qs rs t → Serves s qs rs′ t′ → (rs ≡ rs′) × (t ≡ t′)
+same-serves s t t′ qs rs rs′ served served = (refl, refl)
+same-serves s t t′ qs rs rs′ (serve-next {m = m} {q = q} {r = r} {qs = ps} {rs = xs} a rest) (serve-next {m = m′} {r = r′} {rs = ys} b rest′) =
+    let same = same-after s (q .operation) (q .number) r r′ m m′ a b in
+    let next = same-serves m t t′ ps xs ys rest (subst (λ n. Serves n ps ys t′) (sym same) rest′) in
+    (ap (λ x. x ∷ xs) (same-answer s (q .operation) (q .number) r r′ m m′ a b) ∙ ap (λ l. r′ ∷ l) (next .0), next .1)
