@@ -1,2 +1,6 @@
 pub mod Cuts
 pub mod Numerals
+pub mod Forms
+pub mod Counts
+pub mod Alone
+pub mod Readings

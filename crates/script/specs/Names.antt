@@ -1,4 +1,5 @@
 -- The words by which a script names things.
+use mathlib.Core.Path.{_≡_}
 use lib.Chars.{codes}
 use Rattle.script.specs.Words.{Word}
 use Rattle.script.specs.declared.keyword.Keyword.{Keyword}
@@ -15,3 +16,7 @@ keyword-name State = codes "state"
 abbrev pub kind-name : Kind → Word
 kind-name Site = codes "site"
 kind-name Log = codes "log"
+
+-- the word w names the kind k
+abbrev pub Names : Word → Kind → Type 0
+Names w k = w ≡ kind-name k
