@@ -4,3 +4,5 @@ pub mod Forms
 pub mod Counts
 pub mod Alone
 pub mod Readings
+pub mod Ordering
+pub mod Texts
