@@ -1,0 +1,82 @@
+//! The forms of a line: what the words after a keyword say with it.
+ghost use mathlib.Core.Path.{_≡_};
+ghost use lib.ListN.{length};
+ghost use Rattle.script.specs.Fields.{Found};
+ghost use Rattle.script.specs.Lines.{Numbers, Says};
+ghost use Rattle.script.specs.Words.{words};
+ghost use Rattle.script.specs.declared.keyword.Keyword.{Keyword};
+use super::expected::Expected;
+use super::field;
+use super::keyword::Keyword;
+use super::line::Line;
+use bench::Request;
+
+/// What a text says after a keyword.
+pub fn form(keyword: Keyword, text: &[u8]) -> Result<Line, Expected>
+    ensures { λ r. ⌜ Found (Says keyword (words (now (text .entry)))) r ⌝ }
+{
+    match keyword {
+        Keyword::Bench => bench(text),
+        Keyword::Turn => turn(text),
+        Keyword::Jog => jog(text),
+        Keyword::State => state(text),
+    }
+}
+
+/// Two kinds and eight counts.
+fn bench(text: &[u8]) -> Result<Line, Expected>
+    ensures { λ r. ⌜ Found (Says Keyword.Bench (words (now (text .entry)))) r ⌝ }
+{
+    let (first, text) = field::kind(text)?;
+    let (second, text) = field::kind(text)?;
+    let counts = counts(text)?;
+    Ok(Line::Bench {
+        first,
+        second,
+        counts,
+    })
+}
+
+/// Eight counts, and no further word.
+fn counts(text: &[u8]) -> Result<[i32; 8], Expected>
+    ensures { λ r. ⌜ Found (λ cs. Numbers (words (now (text .entry))) cs × (length cs ≡ 8)) r ⌝ }
+{
+    let mut counts = [0; 8];
+    let mut rest = text;
+    for count in counts.iter_mut() {
+        let Ok((number, after)) = field::number(rest) else {
+            return Err(Expected::Counts);
+        };
+        *count = number;
+        rest = after;
+    }
+    field::end(rest)?;
+    Ok(counts)
+}
+
+/// A shift.
+fn turn(text: &[u8]) -> Result<Line, Expected>
+    ensures { λ r. ⌜ Found (Says Keyword.Turn (words (now (text .entry)))) r ⌝ }
+{
+    let (shift, text) = field::number(text)?;
+    field::end(text)?;
+    Ok(Line::Turn(shift))
+}
+
+/// An operation and a number.
+fn jog(text: &[u8]) -> Result<Line, Expected>
+    ensures { λ r. ⌜ Found (Says Keyword.Jog (words (now (text .entry)))) r ⌝ }
+{
+    let (operation, text) = field::number(text)?;
+    let (number, text) = field::number(text)?;
+    field::end(text)?;
+    Ok(Line::Jog(Request { operation, number }))
+}
+
+/// No further word.
+fn state(text: &[u8]) -> Result<Line, Expected>
+    ensures { λ r. ⌜ Found (Says Keyword.State (words (now (text .entry)))) r ⌝ }
+{
+    field::end(text)?;
+    Ok(Line::State)
+}

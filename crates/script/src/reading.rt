@@ -1,0 +1,31 @@
+ghost use mathlib.Core.Path.{_≡_};
+ghost use Rattle.std.specs.declared.option.Option.{Option};
+ghost use Rattle.script.specs.Fields.{Found};
+ghost use Rattle.script.specs.Lines.{Reads};
+ghost use Rattle.script.specs.Words.{words};
+ghost use Rattle.script.specs.declared.line.Line.{Line};
+use super::expected::Expected;
+use super::form::form;
+use super::keyword::Keyword;
+use super::line::Line;
+use super::words::next_word;
+
+impl Line {
+    /// What a line of a script asks for: nothing where it is empty or a comment. An error says what
+    /// was expected, and that the line reads as nothing.
+    pub fn read(text: &[u8]) -> Result<Option<Line>, Expected>
+        ensures reads { λ r. ⌜ Found (Reads (words (now (text .entry)))) r ⌝ }
+        ensures alone { λ r. ⌜ ((x y : Option Line) → Reads (words (now (text .entry))) x → Reads (words (now (text .entry))) y → x ≡ y) ⌝ }
+    {
+        let Some((word, rest)) = next_word(text) else {
+            return Ok(None);
+        };
+        if word[0] == b'#' {
+            return Ok(None);
+        }
+        match Keyword::named(word) {
+            Some(keyword) => Ok(Some(form(keyword, rest)?)),
+            None => Err(Expected::Keyword),
+        }
+    }
+}
