@@ -5,12 +5,11 @@ use mathlib.Core.Logic.{_⊎_, inl, inr}
 use Prim.Native.Nat.{ℕ, zero, suc, _+_, _≤_, _<_}
 use native.Mathlib.Omega.{arith}
 use lib.IntN.{ℤ, pos, negsuc}
-use lib.ListN.{length, getD, replicate}
+use lib.ListN.{length, getD, replicate, List·getD-map}
 use Rattle.std.specs.declared.option.Option.{Option}
 use Rattle.std.specs.declared.option.Option.the-variants.{Some, None}
 use Rattle.std.specs.declared.result.Result.{Result}
 use Rattle.std.specs.declared.result.Result.the-variants.{Ok, Err}
-use Rattle.std.proofs.shelf.Lists.{length-map, getD-map}
 use Rattle.std.proofs.shelf.Signed.{ints}
 use Rattle.std.proofs.shelf.Tests.{cases-lt}
 use Rattle.bench.specs.Bounds.{feeder-count, most-in-feeder, full-turn}
@@ -29,7 +28,7 @@ use Rattle.bench.specs.declared.state.State.{State}
 use Rattle.bench.proofs.Ranges.{Ranging, ranging, ranged-in, ranged-out}
 use Rattle.bench.proofs.Ranges.Ranging.{inside, outside}
 
-abbrev Setting : Type 0
+abbrev pub Setting : Type 0
 Setting = Result (Unit {0}) SetUpRefusal × State
 
 -- counts are counts of numbers in range, or one of them lies outside
@@ -65,26 +64,25 @@ same-numbers (n ∷ ns) [] e = let o : _≡_ {A = ℕ} 0 1 = cc in absurd (omega
 same-numbers (n ∷ ns) (m ∷ ms) e = let rest = same-numbers ns ms cc in cc
 
 -- numbers in range are not out of range
-not-stray : (zs : List ℤ) (ns : List ℕ) (k : ℕ) → length zs ≡ feeder-count → zs ≡ map pos ns → ((j : ℕ) → j < feeder-count → getD ns j 0 ≤ most-in-feeder) → k < feeder-count → Outside (most-in-feeder + 1) (getD zs k (pos 0)) → ⊥
-not-stray zs ns k e s h l o =
-    let long : length zs ≡ length ns = ap length s ∙ length-map ns pos in
-    let at : getD zs k (pos 0) ≡ pos (getD ns k 0) = ap (λ xs. getD xs k (pos 0)) s ∙ getD-map pos ns k 0 (pos 0) (omega arith) in
+not-stray : (zs : List ℤ) (ns : List ℕ) (k : ℕ) → zs ≡ map pos ns → ((j : ℕ) → j < feeder-count → getD ns j 0 ≤ most-in-feeder) → k < feeder-count → Outside (most-in-feeder + 1) (getD zs k (pos 0)) → ⊥
+not-stray zs ns k s h l o =
+    let at : getD zs k (pos 0) ≡ pos (getD ns k 0) = ap (λ xs. getD xs k (pos 0)) s ∙ List·getD-map pos ns k 0 in
     let small = h k l in
     elim (subst (Outside (most-in-feeder + 1)) at o) [ inl b ↦ omega (arith, ints, b) | inr b ↦ omega (arith, ints, b) ]
 
-pub same-set-up : (zs : List ℤ) (o p : Setting) → length zs ≡ feeder-count → SetsUp zs (o .0) (o .1) → SetsUp zs (p .0) (p .1) → p ≡ o
-same-set-up zs (r, s) (r′, s′) e a b = by r s r′ s′ a b
+pub same-set-up : (zs : List ℤ) (o p : Setting) → SetsUp zs (o .0) (o .1) → SetsUp zs (p .0) (p .1) → p ≡ o
+same-set-up zs (r, s) (r′, s′) a b = by r s r′ s′ a b
   where
     by : (r : Result (Unit {0}) SetUpRefusal) (s : State) (r′ : Result (Unit {0}) SetUpRefusal) (s′ : State) → SetsUp zs r s → SetsUp zs r′ s′ → _≡_ {A = Setting} (r′, s′) (r, s)
     by r s r′ s′ (taken-over ns f h) (taken-over ms g l) = ap (λ xs. (Ok tt, fresh xs)) (same-numbers ms ns (sym g ∙ f))
-    by r s r′ s′ (taken-over ns f h) (refused k l o) = absurd (not-stray zs ns k e f h l o)
-    by r s r′ s′ (refused k l o) (taken-over ms g h) = absurd (not-stray zs ms k e g h l o)
+    by r s r′ s′ (taken-over ns f h) (refused k l o) = absurd (not-stray zs ns k f h l o)
+    by r s r′ s′ (refused k l o) (taken-over ms g h) = absurd (not-stray zs ms k g h l o)
     by r s r′ s′ (refused k l o) (refused j h p) = refl
 
 pub one-set-up : One-set-up
-one-set-up zs e = let o = some-set-up zs e (counting zs) in (o .0, o .1, λ p h. same-set-up zs (o .0) p e (o .1) h)
+one-set-up zs e = let o = some-set-up zs e (counting zs) in (o .0, o .1, λ p h. same-set-up zs (o .0) p (o .1) h)
 
-abbrev Turning : Type 0
+abbrev pub Turning : Type 0
 Turning = Result (Unit {0}) ShiftRefusal × Angle
 
 -- the outcome of a turn, by what the number is
@@ -102,3 +100,6 @@ some-turn z o (outside h) = unturned h
 
 pub one-turn : One-turn
 one-turn z = (turning (angle-at z), some-turn z (angle-at z) (ranging full-turn to-angle z), λ o h. by-turn z (o .0) (o .1) h)
+
+pub same-turn : (z : ℤ) (o p : Turning) → TurnsBy z (o .0) (o .1) → TurnsBy z (p .0) (p .1) → p ≡ o
+same-turn z o p a b = by-turn z (p .0) (p .1) b ∙ sym (by-turn z (o .0) (o .1) a)
