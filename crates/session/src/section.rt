@@ -1,5 +1,15 @@
+ghost use mathlib.Core.Bool.{false};
+ghost use mathlib.Core.List.{[]};
+ghost use mathlib.Core.Path.{_≡_};
+ghost use Rattle.std.specs.Of.Vec.{vec-items};
+ghost use Rattle.std.specs.Results.{Cases};
+ghost use Rattle.std.specs.declared.option.Option.the-variants.{None};
+ghost use Rattle.session.specs.Lines.{turn-with, requests-with, state-with};
 use bench::Request;
 use script::Kind;
+use script::Line;
+use std::alloc::AllocError;
+use std::alloc::Global;
 
 /// A section of a script: two benches that are set up with the same counts, and what is asked of
 /// both.
@@ -13,4 +23,30 @@ pub struct Section {
     pub requests: Vec<Request>,
     /// Whether the state is asked for at the end.
     pub state: bool,
+}
+
+impl Section {
+    /// A section with these benches, that asks nothing yet.
+    pub fn new(heap: Global, first: Kind, second: Kind, counts: [i32; 8]) -> Section
+        ensures benches { λ r. ⌜ r .first ≡ first ⌝ ∗ ⌜ r .second ≡ second ⌝ ∗ ⌜ r .counts ≡ counts ⌝ }
+        ensures asked { λ r. ⌜ r .turn ≡ None ⌝ ∗ ⌜ vec-items (r .requests) ≡ [] ⌝ ∗ ⌜ r .state ≡ false ⌝ }
+    {
+        Section { first, second, counts, turn: None, requests: Vec::new(heap), state: false }
+    }
+
+    /// Adds what a line asks. Refused memory, the section is as it was.
+    pub fn add(&mut self, line: Line) -> Result<(), AllocError>
+        ensures benches { λ _. ⌜ now (self .exit) .first ≡ now (self .entry) .first ⌝ ∗ ⌜ now (self .exit) .second ≡ now (self .entry) .second ⌝ ∗ ⌜ now (self .exit) .counts ≡ now (self .entry) .counts ⌝ }
+        ensures turn { λ _. ⌜ now (self .exit) .turn ≡ turn-with line (now (self .entry) .turn) ⌝ }
+        ensures requests { λ r. ⌜ Cases r (λ _. vec-items (now (self .exit) .requests) ≡ requests-with line (vec-items (now (self .entry) .requests))) (λ _. vec-items (now (self .exit) .requests) ≡ vec-items (now (self .entry) .requests)) ⌝ }
+        ensures state { λ _. ⌜ now (self .exit) .state ≡ state-with line (now (self .entry) .state) ⌝ }
+    {
+        match line {
+            Line::Bench { first: _, second: _, counts: _ } => {}
+            Line::Turn(shift) => self.turn = Some(shift),
+            Line::Jog(request) => self.requests.push(request)?,
+            Line::State => self.state = true,
+        }
+        Ok(())
+    }
 }
