@@ -1,5 +1,6 @@
 pub mod Cuts
 pub mod Numerals
+pub mod Blame
 pub mod Forms
 pub mod Counts
 pub mod Alone

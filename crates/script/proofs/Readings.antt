@@ -7,13 +7,16 @@ use borrow.Author.Tests.{false-eqb}
 use lib.ListN.{length, getD}
 use Rattle.std.specs.declared.option.Option.{Option}
 use Rattle.std.specs.declared.option.Option.the-variants.{Some, None}
+use Rattle.script.specs.Blame.{fields, Blames, Unread, unknown, misfit}
 use Rattle.script.specs.Lines.{Says, number-sign, Reads, empty, comment, asks}
 use Rattle.script.specs.Names.{keyword-name}
 use Rattle.script.specs.Words.{Word}
+use Rattle.script.specs.declared.expected.Expected.{Expected}
+use Rattle.script.specs.declared.expected.Expected.the-variants as expected
 use Rattle.script.specs.declared.keyword.Keyword.{Keyword}
 use Rattle.script.specs.declared.line.Line.{Line}
-use Rattle.script.proofs.Alone.{same-key}
-use Rattle.script.proofs.Forms.{Unsaid}
+use Rattle.script.proofs.Alone.{same-key, no-sign}
+use Rattle.script.proofs.Blame.{unsaid}
 
 pub reads-empty : (ws : List Word) → ws ≡ [] → Reads ws None
 reads-empty ws e = rw e empty
@@ -25,19 +28,25 @@ reads-comment ws (b ∷ w) rest e l h = rw (e, h) comment
 pub reads-asks : (ws : List Word) (w : Word) (rest : List Word) (k : Keyword) (x : Line) → ws ≡ w ∷ rest → w ≡ keyword-name k → Says k rest x → Reads ws (Some x)
 reads-asks ws w rest k x e f s = rw (e, f) (asks s)
 
--- a line that is no comment
-module _ (w : Word) (rest : List Word) (plain : getD w 0 0 ≡ number-sign → ⊥) where
-  first-word : (ws : List Word) (x : Option Line) → Reads ws x → ws ≡ w ∷ rest → (k : Keyword) × (w ≡ keyword-name k) × ((y : Line) × Says k rest y)
-  first-word ws x empty e = let z : _≡_ {A = ℕ} 0 1 = cc in absurd (omega arith)
-  first-word ws x (comment {w = v}) e = let f : w ≡ number-sign ∷ v = cc in absurd (plain (ap (λ u. getD u 0 0) f))
-  first-word ws x (asks {k = k} {ws = vs} {x = y} s) e =
-      let f : w ≡ keyword-name k = cc in let g : vs ≡ rest = cc in (k, f, (y, subst (λ us. Says k us y) g s))
+-- the first word of a line that is no comment and says something is a keyword
+first-word : (w : Word) (rest : List Word) → (getD w 0 0 ≡ number-sign → ⊥) → (ws : List Word) (x : Option Line) → Reads ws x → ws ≡ w ∷ rest → (k : Keyword) × (w ≡ keyword-name k) × ((y : Line) × Says k rest y)
+first-word w rest plain ws x empty e = let z : _≡_ {A = ℕ} 0 1 = cc in absurd (omega arith)
+first-word w rest plain ws x (comment {w = v}) e = let f : w ≡ number-sign ∷ v = cc in absurd (plain (ap (λ u. getD u 0 0) f))
+first-word w rest plain ws x (asks {k = k} {ws = vs} {x = y} s) e =
+    let f : w ≡ keyword-name k = cc in let g : vs ≡ rest = cc in (k, f, (y, subst (λ us. Says k us y) g s))
 
-  module _ (ws : List Word) (e : ws ≡ w ∷ rest) where
-    pub unread-word : ((k : Keyword) → w ≡ keyword-name k → ⊥) → (x : Option Line) → Reads ws x → ⊥
-    unread-word h x r = let p = first-word ws x r e in h (p .0) (p .1)
+plain-key : (k : Keyword) → getD (keyword-name k) 0 0 ≡ number-sign → ⊥
+plain-key k = false-eqb _ _ (sym (no-sign k))
 
-    pub unread-form : (k : Keyword) → w ≡ keyword-name k → Unsaid k rest → (x : Option Line) → Reads ws x → ⊥
-    unread-form k f h x r =
-        let p = first-word ws x r e in
-        h (p .2 .0) (subst (λ j. Says j rest (p .2 .0)) (same-key (p .0) k (sym (p .1) ∙ f)) (p .2 .1))
+-- what is told of words holds of words that say nothing
+pub unread : (ws : List Word) (e : Expected) → Unread ws e → (x : Option Line) → Reads ws x → ⊥
+unread ws e (unknown plain h) x r = let p = first-word _ _ plain _ x r refl in h (p .0) (p .1)
+unread ws e (misfit k {ws = rest} b) x r =
+    let p = first-word (keyword-name k) rest (plain-key k) _ x r refl in
+    unsaid k rest e b (p .2 .0) (subst (λ j. Says j rest (p .2 .0)) (sym (same-key k (p .0) (p .1))) (p .2 .1))
+
+pub unread-word : (ws : List Word) (w : Word) (rest : List Word) → ws ≡ w ∷ rest → (getD w 0 0 ≡ number-sign → ⊥) → ((k : Keyword) → w ≡ keyword-name k → ⊥) → Unread ws expected.Keyword
+unread-word ws w rest e plain h = rw e (unknown plain h)
+
+pub unread-form : (ws : List Word) (w : Word) (rest : List Word) (k : Keyword) (d : Expected) → ws ≡ w ∷ rest → w ≡ keyword-name k → Blames (fields k) rest d → Unread ws d
+unread-form ws w rest k d e f b = rw (e, f) (misfit k b)

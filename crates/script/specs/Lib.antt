@@ -3,6 +3,7 @@ pub mod Numbers
 pub mod Names
 pub mod Fields
 pub mod Lines
+pub mod Blame
 pub mod Order
 pub mod Answers
 pub mod Messages

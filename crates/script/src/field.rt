@@ -6,6 +6,7 @@ ghost use Rattle.script.specs.Fields.{Takes, Lacks};
 ghost use Rattle.script.specs.Names.{Names};
 ghost use Rattle.script.specs.Numbers.{Writes};
 ghost use Rattle.script.specs.Words.{words};
+ghost use Rattle.script.specs.declared.expected.Expected.{Expected};
 use super::expected::Expected;
 use super::kind::Kind;
 use super::number;
@@ -13,7 +14,7 @@ use super::words::next_word;
 
 /// A kind of bench.
 pub fn kind(text: &[u8]) -> Result<(Kind, &[u8]), Expected>
-    ensures { λ r. ⌜ Cases r (λ p. Takes Names (words (now (text .entry))) (p .0) (words (now (p .1)))) (λ _. Lacks Names (words (now (text .entry)))) ⌝ }
+    ensures { λ r. ⌜ Cases r (λ p. Takes Names (words (now (text .entry))) (p .0) (words (now (p .1)))) (λ e. (e ≡ Expected.Kind) × Lacks Names (words (now (text .entry)))) ⌝ }
 {
     let Some((word, rest)) = next_word(text) else {
         return Err(Expected::Kind);
@@ -26,7 +27,7 @@ pub fn kind(text: &[u8]) -> Result<(Kind, &[u8]), Expected>
 
 /// A number.
 pub fn number(text: &[u8]) -> Result<(i32, &[u8]), Expected>
-    ensures { λ r. ⌜ Cases r (λ p. Takes Writes (words (now (text .entry))) (p .0) (words (now (p .1)))) (λ _. Lacks Writes (words (now (text .entry)))) ⌝ }
+    ensures { λ r. ⌜ Cases r (λ p. Takes Writes (words (now (text .entry))) (p .0) (words (now (p .1)))) (λ e. (e ≡ Expected.Number) × Lacks Writes (words (now (text .entry)))) ⌝ }
 {
     let Some((word, rest)) = next_word(text) else {
         return Err(Expected::Number);
@@ -39,7 +40,7 @@ pub fn number(text: &[u8]) -> Result<(i32, &[u8]), Expected>
 
 /// The end of a line.
 pub fn end(text: &[u8]) -> Result<(), Expected>
-    ensures { λ r. ⌜ Cases r (λ _. words (now (text .entry)) ≡ []) (λ _. (words (now (text .entry)) ≡ [] → ⊥)) ⌝ }
+    ensures { λ r. ⌜ Cases r (λ _. words (now (text .entry)) ≡ []) (λ e. (e ≡ Expected.End) × (words (now (text .entry)) ≡ [] → ⊥)) ⌝ }
 {
     match next_word(text) {
         None => Ok(()),

@@ -1,9 +1,11 @@
 //! The forms of a line: what the words after a keyword say with it.
 ghost use mathlib.Core.Path.{_≡_};
-ghost use lib.ListN.{length};
-ghost use Rattle.script.specs.Fields.{Found};
+ghost use lib.ListN.{length, replicate};
+ghost use Rattle.std.specs.Results.{Cases};
+ghost use Rattle.script.specs.Blame.{fields, Blames};
 ghost use Rattle.script.specs.Lines.{Numbers, Says};
 ghost use Rattle.script.specs.Words.{words};
+ghost use Rattle.script.specs.declared.expected.Expected.{Expected};
 ghost use Rattle.script.specs.declared.keyword.Keyword.{Keyword};
 use super::expected::Expected;
 use super::field;
@@ -13,7 +15,7 @@ use bench::Request;
 
 /// What a text says after a keyword.
 pub fn form(keyword: Keyword, text: &[u8]) -> Result<Line, Expected>
-    ensures { λ r. ⌜ Found (Says keyword (words (now (text .entry)))) r ⌝ }
+    ensures { λ r. ⌜ Cases r (Says keyword (words (now (text .entry)))) (Blames (fields keyword) (words (now (text .entry)))) ⌝ }
 {
     match keyword {
         Keyword::Bench => bench(text),
@@ -25,7 +27,7 @@ pub fn form(keyword: Keyword, text: &[u8]) -> Result<Line, Expected>
 
 /// Two kinds and eight counts.
 fn bench(text: &[u8]) -> Result<Line, Expected>
-    ensures { λ r. ⌜ Found (Says Keyword.Bench (words (now (text .entry)))) r ⌝ }
+    ensures { λ r. ⌜ Cases r (Says Keyword.Bench (words (now (text .entry)))) (Blames (fields Keyword.Bench) (words (now (text .entry)))) ⌝ }
 {
     let (first, text) = field::kind(text)?;
     let (second, text) = field::kind(text)?;
@@ -39,7 +41,7 @@ fn bench(text: &[u8]) -> Result<Line, Expected>
 
 /// Eight counts, and no further word.
 fn counts(text: &[u8]) -> Result<[i32; 8], Expected>
-    ensures { λ r. ⌜ Found (λ cs. Numbers (words (now (text .entry))) cs × (length cs ≡ 8)) r ⌝ }
+    ensures { λ r. ⌜ Cases r (λ cs. Numbers (words (now (text .entry))) cs × (length cs ≡ 8)) (Blames (replicate 8 Expected.Counts) (words (now (text .entry)))) ⌝ }
 {
     let mut counts = [0; 8];
     let mut rest = text;
@@ -56,7 +58,7 @@ fn counts(text: &[u8]) -> Result<[i32; 8], Expected>
 
 /// A shift.
 fn turn(text: &[u8]) -> Result<Line, Expected>
-    ensures { λ r. ⌜ Found (Says Keyword.Turn (words (now (text .entry)))) r ⌝ }
+    ensures { λ r. ⌜ Cases r (Says Keyword.Turn (words (now (text .entry)))) (Blames (fields Keyword.Turn) (words (now (text .entry)))) ⌝ }
 {
     let (shift, text) = field::number(text)?;
     field::end(text)?;
@@ -65,7 +67,7 @@ fn turn(text: &[u8]) -> Result<Line, Expected>
 
 /// An operation and a number.
 fn jog(text: &[u8]) -> Result<Line, Expected>
-    ensures { λ r. ⌜ Found (Says Keyword.Jog (words (now (text .entry)))) r ⌝ }
+    ensures { λ r. ⌜ Cases r (Says Keyword.Jog (words (now (text .entry)))) (Blames (fields Keyword.Jog) (words (now (text .entry)))) ⌝ }
 {
     let (operation, text) = field::number(text)?;
     let (number, text) = field::number(text)?;
@@ -75,7 +77,7 @@ fn jog(text: &[u8]) -> Result<Line, Expected>
 
 /// No further word.
 fn state(text: &[u8]) -> Result<Line, Expected>
-    ensures { λ r. ⌜ Found (Says Keyword.State (words (now (text .entry)))) r ⌝ }
+    ensures { λ r. ⌜ Cases r (Says Keyword.State (words (now (text .entry)))) (Blames (fields Keyword.State) (words (now (text .entry)))) ⌝ }
 {
     field::end(text)?;
     Ok(Line::State)

@@ -14,7 +14,7 @@ pub enum Kind {
 
 impl Kind {
     /// The kind that a word names.
-    pub fn named(word: &[u8]) -> Option<Kind>
+    pub(crate) fn named(word: &[u8]) -> Option<Kind>
         ensures { λ r. ⌜ BySome r ((k : Kind) → now (word .entry) ≡ kind-name k → ⊥) (λ k. now (word .entry) ≡ kind-name k) ⌝ }
     {
         match word {

@@ -1,5 +1,7 @@
 ghost use mathlib.Core.Path.{_≡_};
 ghost use Rattle.std.specs.declared.option.Option.{Option};
+ghost use Rattle.std.specs.Vec.{refused};
+ghost use Rattle.script.specs.Blame.{Unread};
 ghost use Rattle.script.specs.Fields.{Found};
 ghost use Rattle.script.specs.Lines.{Reads};
 ghost use Rattle.script.specs.Words.{words};
@@ -15,6 +17,7 @@ impl Line {
     /// was expected, and that the line reads as nothing.
     pub fn read(text: &[u8]) -> Result<Option<Line>, Expected>
         ensures reads { λ r. ⌜ Found (Reads (words (now (text .entry)))) r ⌝ }
+        ensures blames { λ r. ⌜ refused r (λ e. Unread (words (now (text .entry))) e) ⌝ }
         ensures alone { λ r. ⌜ ((x y : Option Line) → Reads (words (now (text .entry))) x → Reads (words (now (text .entry))) y → x ≡ y) ⌝ }
     {
         let Some((word, rest)) = next_word(text) else {
