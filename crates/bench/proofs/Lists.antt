@@ -36,7 +36,7 @@ agree s s′ t t′ qs rs rs′ served served e = agreed e
 agree s s′ t t′ qs rs rs′ (serve-next {m = m} {q = q} {r = r} {qs = ps} {rs = xs} a rest) (serve-next {m = m′} {r = r′} {rs = ys} b rest′) e =
     let c : Responds s (q .operation) (q .number) r′ m′ = subst (λ z. Responds z (q .operation) (q .number) r′ m′) (sym e) b in
     agree-next e a b (same-answer s (q .operation) (q .number) r r′ m m′ a c)
-      (agree m m′ t t′ ps xs ys rest rest′ (same-after s (q .operation) (q .number) r r′ m m′ a c))
+    (agree m m′ t t′ ps xs ys rest rest′ (same-after s (q .operation) (q .number) r r′ m m′ a c))
 
 -- where a loop has come to the end of the shorter of two lists, it has come to the end of what there is
 pub all-given : {X : Type 0} (xs : List X) (i n : ℕ) → i ≡ min (length xs) n → take i xs ≡ take n xs
@@ -61,7 +61,7 @@ pub serves-all : (f : Replies → Answer) (qs : List Request) (slots : List Repl
     Serves s (take i qs) (map f (take i slots)) t → Serves s (take n qs) (map f (take (length qs) slots)) t
 serves-all f qs slots i n s t e long h =
     subst (λ l. Serves s l (map f (take (length qs) slots)) t) (all-given qs i n e)
-      (subst (λ l. Serves s (take i qs) (map f l) t) (all-given slots i (length qs) (omega arith)) h)
+    (subst (λ l. Serves s (take i qs) (map f l) t) (all-given slots i (length qs) (omega arith)) h)
 
 -- one bench that is given the same requests twice, from one state
 pub same-serves : (s t t′ : State) (qs : List Request) (rs rs′ : List Answer) → Serves s qs rs t → Serves s qs rs′ t′ → (rs ≡ rs′) × (t ≡ t′)

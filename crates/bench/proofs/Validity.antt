@@ -29,8 +29,8 @@ use Rattle.bench.proofs.Rules.{respond-responds}
 pub bound-set : (xs : List ℕ) (i n m v : ℕ) → i < length xs → v ≤ m → ((k : ℕ) → k < n → getD xs k 0 ≤ m) → (k : ℕ) → k < n → getD (set xs i v) k 0 ≤ m
 bound-set xs i n m v h hv old k hk =
     elim (cases-eq k i) [
-      inl e ↦ subst (λ j. getD (set xs i v) j 0 ≤ m) (sym e) (subst (λ z. z ≤ m) (sym (getD-set-same xs i v 0 h)) hv)
-    | inr ne ↦ subst (λ z. z ≤ m) (sym (getD-set-other xs i k v 0 ne)) (old k hk)
+      | inl e ↦ subst (λ j. getD (set xs i v) j 0 ≤ m) (sym e) (subst (λ z. z ≤ m) (sym (getD-set-same xs i v 0 h)) hv)
+      | inr ne ↦ subst (λ z. z ≤ m) (sym (getD-set-other xs i k v 0 ne)) (old k hk)
     ]
 
 pick-valid : (s : State) (f : Feeder) (n : ℕ) → Valid s → s .nozzle ≡ Empty → getD (s .counts) (f .index) 0 ≡ suc n → Valid (picked s f n)
@@ -51,7 +51,8 @@ place-valid s f v holds free =
     let one : in-nozzle (s .nozzle) ≡ 1 = ap in-nozzle holds in
     let none : on-spot (getD (s .sites) (s .site .index) Free) ≡ 0 = ap on-spot free in
     record {
-      eight = v .eight; counted = v .counted;
+      eight = v .eight;
+      counted = v .counted;
       sites-all = length-set (s .sites) (s .site .index) (Taken f (s .angle)) ∙ v .sites-all;
       few = omega (arith, v .few, sumBy-set on-spot (s .sites) (s .site .index) (Taken f (s .angle)) Free here);
     }
@@ -85,9 +86,11 @@ left-valid s op y t v e = subst Valid (sym e) (stays-valid s op y (respond s op 
 
 pub fresh-valid : (ns : List ℕ) → length ns ≡ feeder-count → ((k : ℕ) → k < feeder-count → getD ns k 0 ≤ most-in-feeder) → Valid (fresh ns)
 fresh-valid ns e h = record {
-      eight = e; counted = h; sites-all = refl;
-      few = omega (arith, sumBy-le (λ x. x) most-in-feeder ns (all-from-getD (λ x. x ≤ most-in-feeder) ns 0 (λ k hk. h k (omega arith))), ap (λ n. n * most-in-feeder) e);
-    }
+  eight = e;
+  counted = h;
+  sites-all = refl;
+  few = omega (arith, sumBy-le (λ x. x) most-in-feeder ns (all-from-getD (λ x. x ≤ most-in-feeder) ns 0 (λ k hk. h k (omega arith))), ap (λ n. n * most-in-feeder) e);
+}
 
 -- a new bench is one, however its site and its angle are seen to be in range
 abbrev new-at : List ℕ → (p : 0 < site-count) (a : 0 < full-turn) → State

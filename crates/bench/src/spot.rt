@@ -22,7 +22,10 @@ impl Spot {
     {
         match self {
             Spot::Free => false,
-            Spot::Taken { feeder: _, angle: _ } => true,
+            Spot::Taken {
+                feeder: _,
+                angle: _,
+            } => true,
         }
     }
 
@@ -44,7 +47,10 @@ impl Spot {
     {
         match self {
             Spot::Free => Spot::Free,
-            Spot::Taken { feeder, angle } => Spot::Taken { feeder, angle: angle.read_under(shift) },
+            Spot::Taken { feeder, angle } => Spot::Taken {
+                feeder,
+                angle: angle.read_under(shift),
+            },
         }
     }
 }

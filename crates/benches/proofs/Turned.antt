@@ -92,7 +92,7 @@ sight-taken z b (Taken f a) seen e h =
     let same : n % full-turn ≡ b .hundredths = ap natAbs (r .2) ∙ ap (λ (c : Angle). c .hundredths) (r .3) in
     let small : a .hundredths < full-turn = a .within in
     ap (λ m. (quotZ m (pos full-turn) *ℤ pos full-turn) +ℤ pos (reading (z .hundredths) (b .hundredths))) e
-      ∙ ap pos (let feeder : n / full-turn ≡ f .index = omega arith in let angle : b .hundredths ≡ a .hundredths = omega arith in cc)
+    ∙ ap pos (let feeder : n / full-turn ≡ f .index = omega arith in let angle : b .hundredths ≡ a .hundredths = omega arith in cc)
 
 pub sight-free : (z : Angle) (p : Spot) (seen : ℤ) → seen ≡ sight p → angle-at (remZ seen (pos full-turn)) ≡ None → seen ≡ sight (spot-under z p)
 sight-free z Free seen e h = e

@@ -19,7 +19,9 @@ impl Entries {
     pub fn new() -> Entries
         ensures { λ r. ⌜ r .spots ≡ replicate site-count Free ⌝ }
     {
-        Entries { spots: [Spot::Free; 32] }
+        Entries {
+            spots: [Spot::Free; 32],
+        }
     }
 }
 

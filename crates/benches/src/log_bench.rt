@@ -3,8 +3,8 @@ ghost use Rattle.std.specs.shelf.Lists.{sum, sumBy};
 ghost use Rattle.bench.specs.Bounds.{most-parts};
 ghost use Rattle.bench.specs.States.{in-nozzle, on-spot};
 ghost use Rattle.benches.specs.Laid.{after};
-use super::log::Log;
 use super::head::Head;
+use super::log::Log;
 
 mod rules;
 

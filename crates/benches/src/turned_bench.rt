@@ -32,8 +32,20 @@ impl<B: Bench> TurnedBench<B> {
         ensures below { λ r. ⌜ r .0 .below ≡ below ⌝ }
     {
         match Angle::new(shift) {
-            Some(angle) => (TurnedBench { below, shift: angle }, Ok(())),
-            None => (TurnedBench { below, shift: Angle::ZERO }, Err(ShiftRefusal::ShiftOutOfRange)),
+            Some(angle) => (
+                TurnedBench {
+                    below,
+                    shift: angle,
+                },
+                Ok(()),
+            ),
+            None => (
+                TurnedBench {
+                    below,
+                    shift: Angle::ZERO,
+                },
+                Err(ShiftRefusal::ShiftOutOfRange),
+            ),
         }
     }
 }
@@ -57,7 +69,10 @@ pub impl<B: Bench> Bench for TurnedBench<B> as TurnedBenchRules {
         match Action::decode(request)? {
             Action::Turn(angle) => {
                 let number = angle.read_under(self.shift).hundredths() as i32;
-                self.below.request(Request { operation: 1, number })
+                self.below.request(Request {
+                    operation: 1,
+                    number,
+                })
             }
             Action::Look(_) => {
                 let seen = self.below.request(request)?;

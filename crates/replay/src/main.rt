@@ -26,7 +26,11 @@ impl Script {
             Ok(position) => self.position = position,
             Err(expected) => return Ok(Some(expected)),
         }
-        if let Line::Bench { first, second, counts } = line {
+        if let Line::Bench {
+            first,
+            second,
+            counts,
+        } = line {
             self.finish(rt)?;
             self.section = Some(Section::new(rt.alloc(), first, second, counts));
         } else if let Some(section) = &mut self.section {
@@ -49,7 +53,10 @@ impl Script {
 /// Performs the whole script. Where a line cannot be read, what stands before it is performed, and
 /// nothing after it.
 fn run(rt: &LibcRuntime) -> Result<(), AnyError> {
-    let mut script = Script { position: Position::Start, section: None };
+    let mut script = Script {
+        position: Position::Start,
+        section: None,
+    };
     let mut number = 0u64;
     for text in BufReader::new(rt.stdin()).split(rt.alloc(), b'\n') {
         number = number.saturating_add(1);

@@ -56,8 +56,8 @@ goes-on x s t f h e qs slots unfilled before extra all same long kept serves is 
       last = t;
       serves = subst (λ l. Serves s l (map h slots) t) given (subst (λ l. Serves s (take (length unfilled) qs) (map h l) t) filled serves);
       is = ap (map f) is ∙ map-append f (before ++ map exchange slots) extra
-        ∙ ap (λ l. l ++ map f extra) (map-append f before (map exchange slots)) ∙ append-assoc (map f before) (map f (map exchange slots)) (map f extra)
-        ∙ ap (λ l. map f before ++ (l ++ map f extra)) (map-exchange f h e slots) ∙ ap (λ l. map f before ++ (map reply (map h slots) ++ l)) end;
+          ∙ ap (λ l. l ++ map f extra) (map-append f before (map exchange slots)) ∙ append-assoc (map f before) (map f (map exchange slots)) (map f extra)
+          ∙ ap (λ l. map f before ++ (l ++ map f extra)) (map-exchange f h e slots) ∙ ap (λ l. map f before ++ (map reply (map h slots) ++ l)) end;
     }
 
 -- of two states that are told, the first bench told the first, the second the second

@@ -25,12 +25,12 @@ use Rattle.session.specs.declared.section.Section.{Section}
 pub data Performs (x : Section) : List Answer → Type 0 where
   -- a bench as it is set up
   plain : {r : Result (Unit {0}) SetUpRefusal} {s t : Standing} {rs : List Reply} →
-    x .turn ≡ None → SetsUp (x .counts) r s → Serves s (vec-items (x .requests)) rs t →
-    Performs x (set-up-answer r ∷ (map reply rs ++ report (x .state) t))
+      x .turn ≡ None → SetsUp (x .counts) r s → Serves s (vec-items (x .requests)) rs t →
+      Performs x (set-up-answer r ∷ (map reply rs ++ report (x .state) t))
   -- a turned bench
   turned : {z : ℤ} {r : Result (Unit {0}) SetUpRefusal} {q : Result (Unit {0}) ShiftRefusal} {a : Angle} {s t : Standing} {rs : List Reply} →
-    x .turn ≡ Some z → SetsUp (x .counts) r s → TurnsBy z q a → Serves (state-under a s) (vec-items (x .requests)) rs t →
-    Performs x (set-up-answer r ∷ turn-answer q ∷ (map reply rs ++ report (x .state) t))
+      x .turn ≡ Some z → SetsUp (x .counts) r s → TurnsBy z q a → Serves (state-under a s) (vec-items (x .requests)) rs t →
+      Performs x (set-up-answer r ∷ turn-answer q ∷ (map reply rs ++ report (x .state) t))
 
 -- the exchange of two replies
 abbrev pub exchange : Replies → Exchange

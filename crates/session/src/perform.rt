@@ -37,15 +37,36 @@ impl Section {
     {
         let counts = self.counts;
         match (self.first, self.second) {
-            (Kind::Site, Kind::Site) => self.perform_on(heap, SiteBench::set_up(counts), SiteBench::set_up(counts)),
-            (Kind::Site, Kind::Log) => self.perform_on(heap, SiteBench::set_up(counts), LogBench::set_up(counts)),
-            (Kind::Log, Kind::Site) => self.perform_on(heap, LogBench::set_up(counts), SiteBench::set_up(counts)),
-            (Kind::Log, Kind::Log) => self.perform_on(heap, LogBench::set_up(counts), LogBench::set_up(counts)),
+            (Kind::Site, Kind::Site) => self.perform_on(
+                heap,
+                SiteBench::set_up(counts),
+                SiteBench::set_up(counts),
+            ),
+            (Kind::Site, Kind::Log) => self.perform_on(
+                heap,
+                SiteBench::set_up(counts),
+                LogBench::set_up(counts),
+            ),
+            (Kind::Log, Kind::Site) => self.perform_on(
+                heap,
+                LogBench::set_up(counts),
+                SiteBench::set_up(counts),
+            ),
+            (Kind::Log, Kind::Log) => self.perform_on(
+                heap,
+                LogBench::set_up(counts),
+                LogBench::set_up(counts),
+            ),
         }
     }
 
     /// Performs the section on two benches that were just set up.
-    fn perform_on<P: Inspect + Drop, Q: Inspect + Drop>(&self, heap: Global, first: SetUp<P>, second: SetUp<Q>) -> Result<Vec<Exchange>, AllocError>
+    fn perform_on<P: Inspect + Drop, Q: Inspect + Drop>(
+        &self,
+        heap: Global,
+        first: SetUp<P>,
+        second: SetUp<Q>,
+    ) -> Result<Vec<Exchange>, AllocError>
         requires first { ⌜ SetsUp (now self .counts) (first .1) (P·Bench .state (first .0)) ⌝ }
         requires second { ⌜ SetsUp (now self .counts) (second .1) (Q·Bench .state (second .0)) ⌝ }
         ensures first { λ r. ⌜ made r (λ v. Performs (now (self .entry)) (first-of (vec-items v))) ⌝ }
@@ -53,23 +74,38 @@ impl Section {
     {
         let (first, first_outcome) = first;
         let (second, second_outcome) = second;
-        let set_up = Exchange { first: set_up_answer(first_outcome), second: set_up_answer(second_outcome) };
+        let set_up = Exchange {
+            first: set_up_answer(first_outcome),
+            second: set_up_answer(second_outcome),
+        };
         let Some(shift) = self.turn else {
             return self.go_on(heap, first, second, vec![in heap; set_up]?);
         };
         let (first, first_outcome) = TurnedBench::new(first, shift);
         let (second, second_outcome) = TurnedBench::new(second, shift);
-        let turn = Exchange { first: turn_answer(first_outcome), second: turn_answer(second_outcome) };
+        let turn = Exchange {
+            first: turn_answer(first_outcome),
+            second: turn_answer(second_outcome),
+        };
         self.go_on(heap, first, second, vec![in heap; set_up, turn]?)
     }
 
     /// Gives both benches the requests of the section, and adds what they answer to what they
     /// answered before; and their states, if the section asks for them.
-    fn go_on<P: Inspect + Drop, Q: Inspect + Drop>(&self, heap: Global, mut first: P, mut second: Q, before: Vec<Exchange>) -> Result<Vec<Exchange>, AllocError>
+    fn go_on<P: Inspect + Drop, Q: Inspect + Drop>(
+        &self,
+        heap: Global,
+        mut first: P,
+        mut second: Q,
+        before: Vec<Exchange>,
+    ) -> Result<Vec<Exchange>, AllocError>
         ensures first { λ r. ⌜ made r (λ v. Goes-on (now (self .entry)) (P·Bench .state first) (first-of (vec-items before)) (first-of (vec-items v))) ⌝ }
         ensures second { λ r. ⌜ made r (λ v. Goes-on (now (self .entry)) (Q·Bench .state second) (second-of (vec-items before)) (second-of (vec-items v))) ⌝ }
     {
-        let unanswered = Replies { first: Ok(0), second: Ok(0) };
+        let unanswered = Replies {
+            first: Ok(0),
+            second: Ok(0),
+        };
         let mut slots = vec![in heap; unanswered; self.requests.len()]?;
         request_both(&mut first, &mut second, &self.requests, &mut slots);
         let exchanges = with_replies(before, &slots)?;
@@ -83,18 +119,29 @@ fn with_replies(before: Vec<Exchange>, slots: &[Replies]) -> Result<Vec<Exchange
 {
     let mut exchanges = before;
     for slot in slots {
-        exchanges.push(Exchange { first: reply(slot.first), second: reply(slot.second) })?;
+        exchanges.push(Exchange {
+            first: reply(slot.first),
+            second: reply(slot.second),
+        })?;
     }
     Ok(exchanges)
 }
 
 /// Adds the states of both benches to what was answered before, if they are asked for.
-fn with_states<P: Inspect, Q: Inspect>(before: Vec<Exchange>, asked: bool, first: &P, second: &Q) -> Result<Vec<Exchange>, AllocError>
+fn with_states<P: Inspect, Q: Inspect>(
+    before: Vec<Exchange>,
+    asked: bool,
+    first: &P,
+    second: &Q,
+) -> Result<Vec<Exchange>, AllocError>
     ensures { λ r. ⌜ made r (λ v. vec-items v ≡ vec-items before ++ states asked (P·Bench .state (now (first .entry))) (Q·Bench .state (now (second .entry)))) ⌝ }
 {
     let mut exchanges = before;
     if asked {
-        exchanges.push(Exchange { first: Answer::State(first.snapshot()), second: Answer::State(second.snapshot()) })?;
+        exchanges.push(Exchange {
+            first: Answer::State(first.snapshot()),
+            second: Answer::State(second.snapshot()),
+        })?;
     }
     Ok(exchanges)
 }

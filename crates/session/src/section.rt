@@ -31,7 +31,14 @@ impl Section {
         ensures benches { λ r. ⌜ r .first ≡ first ⌝ ∗ ⌜ r .second ≡ second ⌝ ∗ ⌜ r .counts ≡ counts ⌝ }
         ensures asked { λ r. ⌜ r .turn ≡ None ⌝ ∗ ⌜ vec-items (r .requests) ≡ [] ⌝ ∗ ⌜ r .state ≡ false ⌝ }
     {
-        Section { first, second, counts, turn: None, requests: Vec::new(heap), state: false }
+        Section {
+            first,
+            second,
+            counts,
+            turn: None,
+            requests: Vec::new(heap),
+            state: false,
+        }
     }
 
     /// Adds what a line asks. Refused memory, the section is as it was.
@@ -42,7 +49,11 @@ impl Section {
         ensures state { λ _. ⌜ now (self .exit) .state ≡ state-with line (now (self .entry) .state) ⌝ }
     {
         match line {
-            Line::Bench { first: _, second: _, counts: _ } => {}
+            Line::Bench {
+                first: _,
+                second: _,
+                counts: _,
+            } => {}
             Line::Turn(shift) => self.turn = Some(shift),
             Line::Jog(request) => self.requests.push(request)?,
             Line::State => self.state = true,

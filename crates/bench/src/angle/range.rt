@@ -9,7 +9,9 @@ impl Angle {
         ensures { λ r. ⌜ r ≡ angle-at number ⌝ }
     {
         if number >= 0 && number < FULL_TURN as i32 {
-            Some(Angle { hundredths: number as u16 })
+            Some(Angle {
+                hundredths: number as u16,
+            })
         } else {
             None
         }

@@ -11,6 +11,8 @@ impl Angle {
         ensures twice { λ r. ⌜ read-under shift r ≡ self ⌝ }
     {
         let turn = FULL_TURN as u32;
-        Angle { hundredths: ((shift.hundredths as u32 + turn - self.hundredths as u32) % turn) as u16 }
+        Angle {
+            hundredths: ((shift.hundredths as u32 + turn - self.hundredths as u32) % turn) as u16,
+        }
     }
 }

@@ -8,7 +8,9 @@ impl Feeder {
         ensures { λ r. ⌜ r ≡ feeder-at number ⌝ }
     {
         if number >= 0 && number < 8 {
-            Some(Feeder { index: number as u8 })
+            Some(Feeder {
+                index: number as u8,
+            })
         } else {
             None
         }

@@ -8,7 +8,9 @@ impl Site {
         ensures { λ r. ⌜ r ≡ site-at number ⌝ }
     {
         if number >= 0 && number < 32 {
-            Some(Site { index: number as u8 })
+            Some(Site {
+                index: number as u8,
+            })
         } else {
             None
         }

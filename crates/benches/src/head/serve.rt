@@ -4,8 +4,8 @@ ghost use Rattle.bench.specs.Bounds.{most-parts};
 ghost use Rattle.bench.specs.Respond.{respond};
 ghost use Rattle.bench.specs.States.{parts};
 ghost use Rattle.benches.specs.Heads.{over};
-use super::Head;
 use super::super::sites::Sites;
+use super::Head;
 use bench::Action;
 use bench::Fault;
 use bench::Nozzle;
@@ -32,7 +32,8 @@ impl Head {
                 Ok(0)
             }
             (Nozzle::Holding(_), Action::Pick(_)) => Err(Fault::NozzleFull),
-            (Nozzle::Empty, Action::Pick(feeder)) if self.counts[feeder.index() as usize] == 0 => Err(Fault::FeederEmpty),
+            (Nozzle::Empty, Action::Pick(feeder)) if self.counts[feeder.index() as usize] == 0 =>
+                Err(Fault::FeederEmpty),
             (Nozzle::Empty, Action::Pick(feeder)) => {
                 let left = self.counts[feeder.index() as usize] - 1;
                 self.counts[feeder.index() as usize] = left;
@@ -62,6 +63,13 @@ impl Head {
     {
         let counts = self.counts;
         let spots = sites.list();
-        State { site: self.site, angle: self.angle, nozzle: self.nozzle, counts, bin: self.bin, sites: spots }
+        State {
+            site: self.site,
+            angle: self.angle,
+            nozzle: self.nozzle,
+            counts,
+            bin: self.bin,
+            sites: spots,
+        }
     }
 }

@@ -20,7 +20,13 @@ impl Head {
         requires { ⌜ ((k : ℕ) → k < feeder-count → getD counts k 0 ≤ most-in-feeder) ⌝ }
         ensures { λ r. ⌜ over r all-free ≡ fresh counts ⌝ }
     {
-        Head { site: Site::FIRST, angle: Angle::ZERO, nozzle: Nozzle::Empty, counts, bin: 0 }
+        Head {
+            site: Site::FIRST,
+            angle: Angle::ZERO,
+            nozzle: Nozzle::Empty,
+            counts,
+            bin: 0,
+        }
     }
 
     /// The head of a new bench. A count out of range is refused, and the bench then has no parts.
@@ -31,7 +37,10 @@ impl Head {
         for i in 0..8 {
             let count = counts[i];
             if count < 0 || count > MOST_IN_FEEDER {
-                return (Head::with_counts([0; 8]), Err(SetUpRefusal::CountOutOfRange));
+                return (
+                    Head::with_counts([0; 8]),
+                    Err(SetUpRefusal::CountOutOfRange),
+                );
             }
             parts[i] = count as u16;
         }

@@ -3,9 +3,9 @@ ghost use lib.ListN.{replicate};
 ghost use Rattle.bench.specs.Bounds.{site-count};
 ghost use Rattle.bench.specs.declared.spot.Spot.the-variants.{Free};
 ghost use Rattle.benches.specs.Laid.{after};
-use super::Log;
 use super::super::placement::Placement;
 use super::super::sites::Sites;
+use super::Log;
 use bench::Angle;
 use bench::Feeder;
 use bench::Site;
@@ -15,8 +15,15 @@ impl Log {
     pub fn new() -> Log
         ensures { λ r. ⌜ after (r .made) (r .placements) ≡ replicate site-count Free ⌝ }
     {
-        let unused = Placement { site: Site::FIRST, feeder: Feeder::FIRST, angle: Angle::ZERO };
-        Log { placements: [unused; 32], made: 0 }
+        let unused = Placement {
+            site: Site::FIRST,
+            feeder: Feeder::FIRST,
+            angle: Angle::ZERO,
+        };
+        Log {
+            placements: [unused; 32],
+            made: 0,
+        }
     }
 }
 
@@ -28,14 +35,21 @@ pub impl Sites for Log as LogSites {
         for i in 0..self.made {
             let placement = self.placements[i as usize];
             if placement.site.index() == site.index() {
-                spot = Spot::Taken { feeder: placement.feeder, angle: placement.angle };
+                spot = Spot::Taken {
+                    feeder: placement.feeder,
+                    angle: placement.angle,
+                };
             }
         }
         spot
     }
 
     fn put(&mut self, site: Site, feeder: Feeder, angle: Angle) {
-        self.placements[self.made as usize] = Placement { site, feeder, angle };
+        self.placements[self.made as usize] = Placement {
+            site,
+            feeder,
+            angle,
+        };
         self.made += 1;
     }
 
@@ -43,7 +57,10 @@ pub impl Sites for Log as LogSites {
         let mut spots = [Spot::Free; 32];
         for i in 0..self.made {
             let placement = self.placements[i as usize];
-            spots[placement.site.index() as usize] = Spot::Taken { feeder: placement.feeder, angle: placement.angle };
+            spots[placement.site.index() as usize] = Spot::Taken {
+                feeder: placement.feeder,
+                angle: placement.angle,
+            };
         }
         spots
     }

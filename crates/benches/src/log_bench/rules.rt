@@ -1,11 +1,11 @@
 ghost use mathlib.Core.Path.{_≡_};
 ghost use Rattle.bench.specs.SetUps.{SetsUp};
 ghost use Rattle.benches.specs.Stands.{log-bench-state};
-use super::LogBench;
-use super::super::log::Log;
-use super::super::log::LogSites;
 use super::super::head::Head;
 use super::super::inspect::Inspect;
+use super::super::log::Log;
+use super::super::log::LogSites;
+use super::LogBench;
 use bench::Bench;
 use bench::Fault;
 use bench::Request;
@@ -19,7 +19,13 @@ impl LogBench {
         ensures { λ r. ⌜ SetsUp counts (r .1) (log-bench-state (r .0)) ⌝ }
     {
         let (head, answer) = Head::set_up(counts);
-        (LogBench { head, log: Log::new() }, answer)
+        (
+            LogBench {
+                head,
+                log: Log::new(),
+            },
+            answer,
+        )
     }
 }
 

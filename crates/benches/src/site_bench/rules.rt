@@ -1,11 +1,11 @@
 ghost use mathlib.Core.Path.{_≡_};
 ghost use Rattle.bench.specs.SetUps.{SetsUp};
 ghost use Rattle.benches.specs.Stands.{site-bench-state};
-use super::SiteBench;
 use super::super::entries::Entries;
 use super::super::entries::EntriesSites;
 use super::super::head::Head;
 use super::super::inspect::Inspect;
+use super::SiteBench;
 use bench::Bench;
 use bench::Fault;
 use bench::Request;
@@ -19,7 +19,13 @@ impl SiteBench {
         ensures { λ r. ⌜ SetsUp counts (r .1) (site-bench-state (r .0)) ⌝ }
     {
         let (head, answer) = Head::set_up(counts);
-        (SiteBench { head, sites: Entries::new() }, answer)
+        (
+            SiteBench {
+                head,
+                sites: Entries::new(),
+            },
+            answer,
+        )
     }
 }
 

@@ -22,11 +22,11 @@ loop-i-again g c =
     let d : Request = record { operation = pos 0; number = pos 0 } in
     let p : Replies = record { first = c .request .result; second = c .request-in-loop-i .result } in
     let hq : i < length qs = search needs in
-    let hs : i < length slots = search needs in
-    ( length-set slots i p ∙ c .loop-i .inv .0
-    , serves-more (λ r. r .first) qs slots i d p _ _ _ hq hs (c .loop-i .inv .1) (from-respond _ _ _ _ _ (c .request .ensures .answer) (c .request .ensures .after))
-    , serves-more (λ r. r .second) qs slots i d p _ _ _ hq hs (c .loop-i .inv .2) (from-respond _ _ _ _ _ (c .request-in-loop-i .ensures .answer) (c .request-in-loop-i .ensures .after))
-    , dropped-more slots (c .args .slots .now) i p (c .loop-i .inv .3)
+    let hs : i < length slots = search needs in (
+      length-set slots i p ∙ c .loop-i .inv .0,
+      serves-more (λ r. r .first) qs slots i d p _ _ _ hq hs (c .loop-i .inv .1) (from-respond _ _ _ _ _ (c .request .ensures .answer) (c .request .ensures .after)),
+      serves-more (λ r. r .second) qs slots i d p _ _ _ hq hs (c .loop-i .inv .2) (from-respond _ _ _ _ _ (c .request-in-loop-i .ensures .answer) (c .request-in-loop-i .ensures .after)),
+      dropped-more slots (c .args .slots .now) i p (c .loop-i .inv .3),
     )
 
 pub returns : need.returns

@@ -31,12 +31,12 @@ loop-i-again c =
     let n : ℕ = natAbs (toZ w32 (ofZ w32 (getD zs i (pos 0)))) in
     let within : i < length ns = search needs in
     let good : getD zs i (pos 0) ≡ pos n = search needs in
-    let small : n ≤ most-in-feeder = search needs in
-    ( length-set ns i n ∙ c .loop-i .inv .0
-    , below-more _ _
-        (λ k h. let ne : k ≢ i = omega arith in rw getD-set-other (c .loop-i .inv .1 k h))
-        (rw getD-set-same good)
-    , bound-set ns i feeder-count most-in-feeder n within small (c .loop-i .inv .2)
+    let small : n ≤ most-in-feeder = search needs in (
+      length-set ns i n ∙ c .loop-i .inv .0,
+      below-more _ _
+          (λ k h. let ne : k ≢ i = omega arith in rw getD-set-other (c .loop-i .inv .1 k h))
+          (rw getD-set-same good),
+      bound-set ns i feeder-count most-in-feeder n within small (c .loop-i .inv .2),
     )
 
 pub returns : need.returns

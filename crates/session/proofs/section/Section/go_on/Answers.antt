@@ -25,7 +25,7 @@ returns g c =
     let extra = states (x .state) s t in
     record {
       first = made-weaker _ _ _ (λ v is. goes-on x _ s (λ e. e .first) (λ p. p .first) (λ p. refl) qs slots unfilled (vec-items (c .args .before)) extra (vec-items v)
-        given long kept (c .request-both .ensures .first) (is ∙ ap (λ l. l ++ extra) before) (first-state (x .state) s t)) (c .with-states .ensures);
+          given long kept (c .request-both .ensures .first) (is ∙ ap (λ l. l ++ extra) before) (first-state (x .state) s t)) (c .with-states .ensures);
       second = made-weaker _ _ _ (λ v is. goes-on x _ t (λ e. e .second) (λ p. p .second) (λ p. refl) qs slots unfilled (vec-items (c .args .before)) extra (vec-items v)
-        given long kept (c .request-both .ensures .second) (is ∙ ap (λ l. l ++ extra) before) (second-state (x .state) s t)) (c .with-states .ensures);
+          given long kept (c .request-both .ensures .second) (is ∙ ap (λ l. l ++ extra) before) (second-state (x .state) s t)) (c .with-states .ensures);
     }

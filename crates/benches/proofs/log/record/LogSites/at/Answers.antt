@@ -21,6 +21,6 @@ loop-i-again c =
     let there = c .index .ensures in
     let here = c .index-in-loop-i .ensures in
     elim (c .if-index .came) [
-      then-index w ↦ w .spot-is ∙ read-here i (c .args .site .index) (l .placements) d within (c .args .site .within) (sym there ∙ w .if-index .taken ∙ here)
-    | else-index w ↦ w .spot-is ∙ c .loop-i .inv ∙ read-on i (c .args .site .index) (l .placements) d within (λ e. w .if-index .left (there ∙ e ∙ sym here))
+      | then-index w ↦ w .spot-is ∙ read-here i (c .args .site .index) (l .placements) d within (c .args .site .within) (sym there ∙ w .if-index .taken ∙ here)
+      | else-index w ↦ w .spot-is ∙ c .loop-i .inv ∙ read-on i (c .args .site .index) (l .placements) d within (λ e. w .if-index .left (there ∙ e ∙ sym here))
     ]

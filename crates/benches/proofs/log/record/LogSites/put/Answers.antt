@@ -35,11 +35,16 @@ ghost-self c =
     let fits : l .made < site-count = has-room l site (c .pre) in
     let here : site .index < length spots = omega (arith, length-after (l .made) (l .placements), site .within) in
     let wrote = after-write (l .made) (l .placements) p (omega (arith, l .all)) in
-    let none : on-spot (getD spots (site .index) Free) ≡ 0 = ap on-spot (c .pre) in
-    ( length-set (l .placements) (l .made) p ∙ l .all
-    , ( omega arith
-      , ( subst (λ s. sumBy on-spot s ≡ l .made + 1) (sym wrote) (omega (arith, l .apart, sumBy-set on-spot spots (site .index) (spot p) Free here))
-        , tt)))
+    let none : on-spot (getD spots (site .index) Free) ≡ 0 = ap on-spot (c .pre) in (
+      length-set (l .placements) (l .made) p ∙ l .all,
+      (
+        omega arith,
+        (
+          subst (λ s. sumBy on-spot s ≡ l .made + 1) (sym wrote) (omega (arith, l .apart, sumBy-set on-spot spots (site .index) (spot p) Free here)),
+          tt,
+        ),
+      ),
+    )
 
 pub returns : need.returns
 returns c =
