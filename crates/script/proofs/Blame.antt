@@ -1,6 +1,7 @@
 -- Words that are blamed say nothing.
 use mathlib.Core.Path.{_≡_, refl, sym, ap, subst, _∙_}
 use mathlib.Core.List.{List, [], _∷_}
+use mathlib.Core.Logic.{_⊎_, inl, inr}
 use Prim.Native.Nat.{ℕ}
 use lib.IntN.{ℤ}
 use lib.ListN.{length, replicate}
@@ -47,6 +48,31 @@ said-fits k ws x state = tt
 
 pub unsaid : (k : Keyword) (ws : List Word) (e : Expected) → Blames (fields k) ws e → (x : Line) → Says k ws x → ⊥
 unsaid k ws e b x s = unfit (fields k) ws e b (said-fits k ws x s)
+
+-- the word that is to blame, by recursion on both lists
+abbrev Blamed : List Expected → List Word → Expected → Type 0
+Blamed [] [] d = ⊥
+Blamed [] (w ∷ ws) d = d ≡ End
+Blamed (e ∷ es) [] d = d ≡ e
+Blamed (e ∷ es) (w ∷ ws) d = ((Meets e w → ⊥) × (d ≡ e)) ⊎ (Meets e w × Blamed es ws d)
+
+by-lists : (es : List Expected) (ws : List Word) (d : Expected) → Blames es ws d → Blamed es ws d
+by-lists es ws d missing = refl
+by-lists es ws d (wrong h) = inl (h, refl)
+by-lists es ws d extra = refl
+by-lists es ws d (later m b) = inr (m, by-lists _ _ d b)
+
+same-blamed : (es : List Expected) (ws : List Word) (c d : Expected) → Blamed es ws c → Blamed es ws d → c ≡ d
+same-blamed [] [] c d a b = absurd a
+same-blamed [] (w ∷ ws) c d a b = a ∙ sym b
+same-blamed (e ∷ es) [] c d a b = a ∙ sym b
+same-blamed (e ∷ es) (w ∷ ws) c d (inl a) (inl b) = a .1 ∙ sym (b .1)
+same-blamed (e ∷ es) (w ∷ ws) c d (inl a) (inr b) = absurd (a .0 (b .0))
+same-blamed (e ∷ es) (w ∷ ws) c d (inr a) (inl b) = absurd (b .0 (a .0))
+same-blamed (e ∷ es) (w ∷ ws) c d (inr a) (inr b) = same-blamed es ws c d (a .1) (b .1)
+
+pub same-blame : (es : List Expected) (ws : List Word) (c d : Expected) → Blames es ws c → Blames es ws d → c ≡ d
+same-blame es ws c d a b = same-blamed es ws c d (by-lists es ws c a) (by-lists es ws d b)
 
 -- at the exit of a `?` with the error e
 pub stopped : {X : Type 0} (Q : X → Type 0) (P : Expected → Type 0) (e : Expected) (r : Result X Expected) → ErrBy r (λ d. d ≡ e) → P e → Cases r Q P

@@ -4,7 +4,7 @@ ghost use Rattle.script.specs.Names.{keyword-name};
 ghost use Rattle.script.specs.declared.keyword.Keyword.{Keyword};
 
 /// The first word of a line: it says what the others are.
-#[derive(Clone, Copy, PartialEq, Eq, Debug)]
+#[derive(Clone, Copy)]
 pub enum Keyword {
     Bench,
     Turn,

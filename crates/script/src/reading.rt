@@ -5,6 +5,7 @@ ghost use Rattle.script.specs.Blame.{Unread};
 ghost use Rattle.script.specs.Fields.{Found};
 ghost use Rattle.script.specs.Lines.{Reads};
 ghost use Rattle.script.specs.Words.{words};
+ghost use Rattle.script.specs.declared.expected.Expected.{Expected};
 ghost use Rattle.script.specs.declared.line.Line.{Line};
 use super::expected::Expected;
 use super::form::form;
@@ -13,11 +14,12 @@ use super::line::Line;
 use super::words::next_word;
 
 impl Line {
-    /// What a line of a script asks for: nothing where it is empty or a comment. An error says what
-    /// was expected, and that the line reads as nothing.
+    /// What a line of a script asks for: nothing where it is empty or a comment. A line that reads as
+    /// nothing else is an error, which says what was expected at the first word that does not fit.
     pub fn read(text: &[u8]) -> Result<Option<Line>, Expected>
         ensures reads { λ r. ⌜ Found (Reads (words (now (text .entry)))) r ⌝ }
         ensures blames { λ r. ⌜ refused r (λ e. Unread (words (now (text .entry))) e) ⌝ }
+        ensures once { λ r. ⌜ ((d e : Expected) → Unread (words (now (text .entry))) d → Unread (words (now (text .entry))) e → d ≡ e) ⌝ }
         ensures alone { λ r. ⌜ ((x y : Option Line) → Reads (words (now (text .entry))) x → Reads (words (now (text .entry))) y → x ≡ y) ⌝ }
     {
         let Some((word, rest)) = next_word(text) else {
