@@ -1,5 +1,6 @@
 //! One section of an event script, performed on two benches: what each answers, event by event.
 
+mod answering;
 pub mod exchange;
 mod perform;
 pub mod section;
