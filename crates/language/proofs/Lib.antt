@@ -1,0 +1,5 @@
+pub mod Lists
+pub mod Lines
+pub mod Counts
+pub mod Blocks
+pub mod Names
