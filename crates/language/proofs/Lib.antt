@@ -3,3 +3,4 @@ pub mod Lines
 pub mod Counts
 pub mod Blocks
 pub mod Names
+pub mod Bytes
