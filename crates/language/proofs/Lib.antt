@@ -4,3 +4,4 @@ pub mod Counts
 pub mod Blocks
 pub mod Names
 pub mod Bytes
+pub mod Refusals

@@ -5,3 +5,4 @@ pub mod Rows
 pub mod WellFormed
 pub mod Causes
 pub mod Refusals
+pub mod Theorems

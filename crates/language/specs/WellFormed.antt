@@ -71,7 +71,7 @@ pub record Holds (bs : List ℕ) (t : List Record) : Type 0 where
   pub legible : Legible t
 
 -- some well-formed table has the bytes bs
-pub record Sound (bs : List ℕ) : Type 0 where
+pub record WellFormedBytes (bs : List ℕ) : Type 0 where
   pub table : List Record
   pub same : bytes table ≡ bs
   pub formed : WellFormed table

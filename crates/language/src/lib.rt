@@ -6,6 +6,7 @@ pub mod cause;
 pub mod handler;
 pub mod instruction;
 pub mod record;
+pub mod theorems;
 
 pub use cause::BlockCause;
 pub use cause::NameCause;
