@@ -99,15 +99,6 @@ within-range (Body (Return x)) f = search needs
 within-range (Body (Branch x y l m)) f = search needs
 within-range (Body (Raise x)) f = search needs
 
--- four elements, one by one
-pub four-listed : (ys : List ℕ) → length ys ≡ 4 → getD ys 0 0 ∷ getD ys 1 0 ∷ getD ys 2 0 ∷ getD ys 3 0 ∷ [] ≡ ys
-four-listed [] e = absurd (omega arith)
-four-listed (a ∷ []) e = absurd (omega arith)
-four-listed (a ∷ b ∷ []) e = absurd (omega arith)
-four-listed (a ∷ b ∷ c ∷ []) e = absurd (omega arith)
-four-listed (a ∷ b ∷ c ∷ d ∷ []) e = refl
-four-listed (a ∷ b ∷ c ∷ d ∷ x ∷ ys) e = absurd (omega arith)
-
 clean-padding : (x : Record) → InRange x → Clean (encode x)
 clean-padding (Routine i p q) f = search needs
 clean-padding (Block l None) f = search needs
@@ -116,26 +107,22 @@ clean-padding (Body (Constant x i)) f = search needs
 clean-padding (Body (Move x y)) f = search needs
 clean-padding (Body (Difference x y z)) f = search needs
 clean-padding (Body (Request x o y)) f = search needs
-clean-padding (Body (Call x g n ys)) f =
-    let spare : Spare n (getD ys 0 0 ∷ getD ys 1 0 ∷ getD ys 2 0 ∷ getD ys 3 0 ∷ []) = rw (four-listed ys (f .1)) (f .2) in
-    record {
-      routine = λ e. absurd (omega arith); block = λ e. absurd (omega arith); constant = λ e. absurd (omega arith);
-      move = λ e. absurd (omega arith); difference = λ e. absurd (omega arith); request = λ e. absurd (omega arith);
-      call = λ e. spare; goto = λ e. absurd (omega arith); return = λ e. absurd (omega arith);
-      branch = λ e. absurd (omega arith); raise = λ e. absurd (omega arith)
-    }
+clean-padding (Body (Call x g n ys)) f = search needs
 clean-padding (Body (Goto l)) f = search needs
 clean-padding (Body (Return x)) f = search needs
 clean-padding (Body (Branch x y l m)) f = search needs
 clean-padding (Body (Raise x)) f = search needs
 
--- no cause of a row stands at a row that a record in range has
+-- no cause stands in the row that a record in range has
+pub row-sound : (x : Record) → InRange x → Known (encode x) × Within (encode x) × Clean (encode x)
+row-sound x ok = (known-letter x, within-range x ok, clean-padding x ok)
+
 row-clear : (t : List Record) → All InRange t → (p : ℕ) (row : List ℕ) → nth (rows (joined encode t)) p ≡ Some row → Known row × Within row × Clean row
 row-clear t f p row e =
     let e′ : nth (map encode t) p ≡ Some row = rw (sym (rows-bytes t f)) e in
     let at = nth-map encode t p row e′ in
     let ok = all-nth InRange t p (at .0) f (at .1) in
-    rw (at .2) (known-letter (at .0), within-range (at .0) ok, clean-padding (at .0) ok)
+    rw (at .2) (row-sound (at .0) ok)
 
 whole : (t : List Record) → Legible t → Whole (joined encode t)
 whole t ok =

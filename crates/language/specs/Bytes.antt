@@ -45,9 +45,9 @@ encode (Body i) = instruction-bytes i
 unfoldable pub bytes : List Record → List ℕ
 bytes t = joined encode t
 
--- the places from n on hold 0
+-- of four places, those from n on hold 0
 abbrev pub Spare : ℕ → List ℕ → Type 0
-Spare n xs = (k : ℕ) → n ≤ k → getD xs k 0 ≡ 0
+Spare n xs = (n ≤ 0 → getD xs 0 0 ≡ 0) × (n ≤ 1 → getD xs 1 0 ≡ 0) × (n ≤ 2 → getD xs 2 0 ≡ 0) × (n ≤ 3 → getD xs 3 0 ≡ 0)
 
 -- the fields are in their ranges: at most four parameters and sixteen variables, operations 0 to 5,
 -- at most four arguments, and 0 in the places of those that are not passed

@@ -1,0 +1,5 @@
+//! Routine tables as bytes, decoded and checked.
+
+mod decoding;
+
+pub use decoding::decode;
