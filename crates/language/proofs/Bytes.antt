@@ -66,7 +66,7 @@ rows-bytes t f =
     let e : length (joined encode t) / 8 ≡ length t = omega (arith, length-bytes t f) in
     ap (λ (k : ℕ). chunked 8 k (joined encode t)) e ∙ rows-of t f
 
-nth-map : {X Y : Type 0} (f : X → Y) (xs : List X) (i : ℕ) (y : Y) → nth (map f xs) i ≡ Some y → (x : X) × (nth xs i ≡ Some x) × (y ≡ f x)
+pub nth-map : {X Y : Type 0} (f : X → Y) (xs : List X) (i : ℕ) (y : Y) → nth (map f xs) i ≡ Some y → (x : X) × (nth xs i ≡ Some x) × (y ≡ f x)
 nth-map f [] i y e = clash (cc)
 nth-map f (x ∷ xs) zero y e = (x, refl, cc)
 nth-map f (x ∷ xs) (suc i) y e = nth-map f xs i y e
