@@ -3,11 +3,14 @@
 mod blocks;
 mod decoding;
 mod few;
+mod lookup;
 mod records;
 
 pub use blocks::BlockFault;
 pub use blocks::check_blocks;
 pub use decoding::decode;
 pub use few::Few;
+pub use lookup::Entry;
+pub use lookup::find;
 pub use records::RecordFault;
 pub use records::check_records;
