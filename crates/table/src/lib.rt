@@ -2,6 +2,7 @@
 
 mod blocks;
 mod decoding;
+mod entries;
 mod few;
 mod lookup;
 mod records;
@@ -9,6 +10,9 @@ mod records;
 pub use blocks::BlockFault;
 pub use blocks::check_blocks;
 pub use decoding::decode;
+pub use entries::BlockEntry;
+pub use entries::BlockKey;
+pub use entries::RoutineEntry;
 pub use few::Few;
 pub use lookup::Entry;
 pub use lookup::find;
