@@ -4,8 +4,10 @@ mod blocks;
 mod decoding;
 mod entries;
 mod few;
+mod index;
 mod lookup;
 mod records;
+mod scope;
 
 pub use blocks::BlockFault;
 pub use blocks::check_blocks;
