@@ -13,7 +13,7 @@ use Rattle.std.specs.declared.option.Option.{Option}
 use Rattle.std.specs.declared.option.Option.the-variants.{Some, None}
 use Rattle.language.specs.Lines.{place}
 use Rattle.language.proofs.Lists.{nth-below, place-in, place-none, place-first}
-use Rattle.table.specs.Lookup.{None-below, Hit, Finds}
+use Rattle.table.specs.Lookup.{None-below, Hit, Finds, Inside}
 
 module _ {E : Type 0} (P : E → Type 0) (es : List E) where
   pub none-yet : None-below P es 0
@@ -52,3 +52,7 @@ finds-place {E} P test to from es r f = by r f (place test es) refl
         same : {i j : ℕ} → (j < i) ⊎ (i ≤ j) → j ≤ i → (j < i → ⊥) → i ≡ j
         same (inl s) le no-less = absurd (no-less s)
         same (inr s) le no-less = omega arith
+
+pub finds-inside : {E : Type 0} (P : E → Type 0) (es : List E) (r : Option ℕ) → Finds P es r → Inside r (length es)
+finds-inside P es None f = tt
+finds-inside P es (Some i) f = nth-below es i (f .0 .entry) (f .0 .at)

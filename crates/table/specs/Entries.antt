@@ -3,11 +3,12 @@ use mathlib.Core.Bool.{Bool, _&&_}
 use mathlib.Core.List.{List, [], _∷_}
 use Prim.Native.Nat.{ℕ, suc}
 use lib.Dec.{eqb}
+use lib.ListN.{getD}
 use Rattle.std.specs.declared.option.Option.{Option}
 use Rattle.std.specs.declared.option.Option.the-variants.{Some, None}
 use Rattle.language.specs.declared.record.Record.{Record}
 use Rattle.language.specs.declared.record.Record.the-variants.{Routine, Block, Body}
-use Rattle.language.specs.Lines.{Line, line, lines}
+use Rattle.language.specs.Lines.{Line, line, lines, place}
 use Rattle.table.specs.declared.entries.RoutineEntry.{RoutineEntry}
 use Rattle.table.specs.declared.entries.BlockEntry.{BlockEntry}
 
@@ -43,3 +44,24 @@ of-routine g e = eqb g (e .identifier)
 
 abbrev pub of-block : ℕ → ℕ → BlockEntry → Bool
 of-block r l e = eqb r (e .key .routine) && eqb l (e .key .label)
+
+-- the place of the heading that is found by an entry
+abbrev pub no-routine-entry : RoutineEntry
+no-routine-entry = record { identifier = 0; parameters = 0; place = 0 }
+
+abbrev pub no-block-entry : BlockEntry
+no-block-entry = record { key = record { routine = 0; label = 0 }; place = 0 }
+
+abbrev pub routine-placed : List RoutineEntry → Option ℕ → Option ℕ
+routine-placed rs None = None
+routine-placed rs (Some k) = Some (getD rs k no-routine-entry .place)
+
+abbrev pub block-placed : List BlockEntry → Option ℕ → Option ℕ
+block-placed bs None = None
+block-placed bs (Some k) = Some (getD bs k no-block-entry .place)
+
+abbrev pub routine-at : List RoutineEntry → ℕ → Option ℕ
+routine-at rs g = routine-placed rs (place (of-routine g) rs)
+
+abbrev pub block-at : List BlockEntry → ℕ → ℕ → Option ℕ
+block-at bs r l = block-placed bs (place (of-block r l) bs)

@@ -20,3 +20,8 @@ pub record Hit {E : Type 0} (P : E → Type 0) (es : List E) (i : ℕ) : Type 0 
 abbrev pub Finds : {E : Type 0} → (E → Type 0) → List E → Option ℕ → Type 0
 Finds {E} P es None = (k : ℕ) (e : E) → nth es k ≡ Some e → P e → ⊥
 Finds P es (Some i) = Hit P es i × None-below P es i
+
+-- a place that is found is one of n
+abbrev pub Inside : Option ℕ → ℕ → Type 0
+Inside None n = Unit {0}
+Inside (Some i) n = i < n

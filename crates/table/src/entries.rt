@@ -1,6 +1,8 @@
 ghost use mathlib.Core.Path.{_≡_};
 ghost use Rattle.language.specs.Lines.{place};
-ghost use Rattle.table.specs.Entries.{of-routine, of-block};
+ghost use lib.ListN.{length};
+ghost use Rattle.table.specs.Lookup.{Inside};
+ghost use Rattle.table.specs.Entries.{of-routine, of-block, routine-at, block-at};
 use super::lookup::Entry;
 use super::lookup::find;
 
@@ -49,14 +51,36 @@ pub impl Entry for BlockEntry as BlockEntryEntry {
 
 /// The first entry of a routine.
 pub fn find_routine(routines: &[RoutineEntry], identifier: u8) -> Option<usize>
-    ensures { λ r. ⌜ r ≡ place (of-routine identifier) (now (routines .entry)) ⌝ }
+    ensures found { λ r. ⌜ r ≡ place (of-routine identifier) (now (routines .entry)) ⌝ }
+    ensures within { λ r. ⌜ Inside r (length (now (routines .entry))) ⌝ }
 {
     find(routines, &identifier)
 }
 
 /// The first entry of a block.
 pub fn find_block(blocks: &[BlockEntry], routine: u8, label: u8) -> Option<usize>
-    ensures { λ r. ⌜ r ≡ place (of-block routine label) (now (blocks .entry)) ⌝ }
+    ensures found { λ r. ⌜ r ≡ place (of-block routine label) (now (blocks .entry)) ⌝ }
+    ensures within { λ r. ⌜ Inside r (length (now (blocks .entry))) ⌝ }
 {
     find(blocks, &BlockKey { routine, label })
+}
+
+/// The place of the heading of a routine, if it is there.
+pub fn routine_at(routines: &[RoutineEntry], identifier: u8) -> Option<usize>
+    ensures { λ r. ⌜ r ≡ routine-at (now (routines .entry)) identifier ⌝ }
+{
+    match find_routine(routines, identifier) {
+        Some(at) => Some(routines[at].place),
+        None => None,
+    }
+}
+
+/// The place of the heading of a block, if it is there.
+pub fn block_at(blocks: &[BlockEntry], routine: u8, label: u8) -> Option<usize>
+    ensures { λ r. ⌜ r ≡ block-at (now (blocks .entry)) routine label ⌝ }
+{
+    match find_block(blocks, routine, label) {
+        Some(at) => Some(blocks[at].place),
+        None => None,
+    }
 }
