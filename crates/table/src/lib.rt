@@ -6,6 +6,7 @@ mod entries;
 mod few;
 mod index;
 mod lookup;
+mod names;
 mod records;
 mod scope;
 
