@@ -130,3 +130,57 @@ module _ (t : List Record) where
     bad c q eq (no-block {r} {n} {h} {x = y} i e a) = bad-label r n i h y eq e a
     bad c q eq (no-routine {x = y} i e a) = bad-call (Absent t) (Unknown (routine-entries t)) (absent-unknown t) i y eq e a
     bad c q eq (argument-count {x = y} i e a) = bad-call (Miscounted t) (Misfit (routine-entries t)) (miscounted-misfit t) i y eq e a
+
+-- the first p records have no fault, and the scope that they leave is s
+pub record Sofar (t : List Record) (p : ℕ) (s : Scope) : Type 0 where
+  pub under : Under t p s
+  pub clear : (j : NameCause) (q : ℕ) → q < p → InNames t j q → ⊥
+
+pub start : (t : List Record) (s : Scope) → s ≡ nowhere → Sofar t 0 s
+start t s e = record { under = subst (Under t 0) (sym e) (under-start t); clear = λ j q l h. absurd (omega arith) }
+
+-- what is said of a record, by the entries of the table
+abbrev pub Said : List Record → Scope → ℕ → Record → Option NameCause → Type 0
+Said t s p x r = Flawed (routine-entries t) (block-entries t) s p x r
+
+module _ (t : List Record) (p : ℕ) (s : Scope) (far : Sofar t p s) (x : Record) (is : nth t p ≡ Some x) (s′ : Scope) (next : s′ ≡ scope-at s x) where
+  lined : Lined t p s′ x
+  lined = subst (λ v. Lined t p v x) (sym next) (under-more t p s (far .under) x is .1)
+
+  pub first : (k : NameCause) → Said t s′ p x (Some k) → First name-number (InNames t) k p
+  first k said = record { here = stands t p s′ x lined k (said .0); before = far .clear; lower = λ j l h. said .1 j l (bad t p s′ x lined j p refl h) }
+
+  pub more : Said t s′ p x None → Sofar t (p + 1) s′
+  more said = record {
+    under = subst (Under t (p + 1)) (sym next) (under-more t p s (far .under) x is .0);
+    clear = clear-more (InNames t) p (far .clear) (λ j h. said j (bad t p s′ x lined j p refl h));
+  }
+
+-- after the last record, the absence of routine 0 is the only fault
+record Past (t : List Record) (k : NameCause) : Type 0 where
+  cause : k ≡ NoMain
+  absent : routine-place t 0 ≡ None
+
+past : (t : List Record) (k : NameCause) (q : ℕ) → length t ≤ q → InNames t k q → Past t k
+past t c q l (repeated-routine {g} {n} {q = m} {n′} {q′ = m′} i j e s f) = absurd (omega (arith, nth-below t i _ e))
+past t c q l (repeated-block i j e s f) = absurd (omega (arith, nth-below (lines t) i _ e, length-lines t 0 0 None))
+past t c q l (no-main e) = record { cause = refl; absent = e }
+past t c q l (no-variable i e a) = absurd (omega (arith, nth-below (lines t) i _ e, length-lines t 0 0 None))
+past t c q l (no-block i e a) = absurd (omega (arith, nth-below (lines t) i _ e, length-lines t 0 0 None))
+past t c q l (no-routine i e a) = absurd (omega (arith, nth-below t i _ e))
+past t c q l (argument-count i e a) = absurd (omega (arith, nth-below t i _ e))
+
+module _ (t : List Record) (s : Scope) (far : Sofar t (length t) s) where
+  pub done : (routine-place t 0 ≡ None → ⊥) → NamesClear t
+  done there k q h = by (cases-lt q (length t))
+    where
+      by : (q < length t) ⊎ (length t ≤ q) → ⊥
+      by (inl l) = far .clear k q l h
+      by (inr l) = there (past t k q l h .absent)
+
+  pub main-missing : routine-place t 0 ≡ None → First name-number (InNames t) NoMain (length t)
+  main-missing e = record {
+      here = no-main e;
+      before = far .clear;
+      lower = λ j l h. let z = ap name-number (past t j (length t) (omega arith) h .cause) in absurd (omega arith);
+    }

@@ -21,13 +21,8 @@ use Rattle.table.specs.declared.entries.BlockEntry.{BlockEntry}
 use Rattle.table.specs.declared.index.Index.{Index}
 use Rattle.table.specs.declared.names.NameFault.{NameFault}
 use Rattle.table.specs.declared.scope.Scope.{Scope}
-use Rattle.table.specs.Entries.{routine-entries, block-entries, of-routine, routine-at, block-at, no-routine-entry}
-use Rattle.table.specs.Few.{held}
-
--- the index has the entries of the records
-pub record Indexes (index : Index) (t : List Record) : Type 0 where
-  pub routines : held (index .routines) ≡ routine-entries t
-  pub blocks : held (index .blocks) ≡ block-entries t
+use Rattle.table.specs.Entries.{of-routine, routine-at, block-at, no-routine-entry}
+use Rattle.table.specs.Indexes.{Indexes}
 
 abbrev pub Tied : List Record → Result Index NameFault → Type 0
 Tied t (Ok index) = NamesClear t × Indexes index t

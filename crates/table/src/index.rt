@@ -1,8 +1,7 @@
-ghost use mathlib.Core.Path.{_≡_};
 ghost use Prim.Native.Nat.{_≤_};
 ghost use lib.ListN.{length};
 ghost use Rattle.table.specs.Entries.{routine-entries, block-entries};
-ghost use Rattle.table.specs.Few.{held};
+ghost use Rattle.table.specs.Indexes.{Indexes};
 use super::blocks::MOST_BLOCKS;
 use super::blocks::MOST_ROUTINES;
 use super::entries::BlockEntry;
@@ -23,8 +22,7 @@ pub struct Index {
 pub fn make_index(records: &[Record]) -> Index
     requires routines { ⌜ length (routine-entries (now records)) ≤ 16 ⌝ }
     requires blocks { ⌜ length (block-entries (now records)) ≤ 64 ⌝ }
-    ensures routines { λ r. ⌜ held (r .routines) ≡ routine-entries (now (records .entry)) ⌝ }
-    ensures blocks { λ r. ⌜ held (r .blocks) ≡ block-entries (now (records .entry)) ⌝ }
+    ensures { λ r. ⌜ Indexes r (now (records .entry)) ⌝ }
 {
     let mut routines = Few::new(RoutineEntry { identifier: 0, parameters: 0, place: 0 });
     let mut blocks = Few::new(BlockEntry { key: BlockKey { routine: 0, label: 0 }, place: 0 });

@@ -45,6 +45,6 @@ pub returns : need.returns
 returns c =
     let t = c .args .records .now in
     record {
-      routines = all-routines t _ _ _ _ (c .loop-place .inv) (c .loop-place-test .left);
-      blocks = all-blocks t _ _ _ _ (c .loop-place .inv) (c .loop-place-test .left);
+      routine-list = all-routines t _ _ _ _ (c .loop-place .inv) (c .loop-place-test .left);
+      block-list = all-blocks t _ _ _ _ (c .loop-place .inv) (c .loop-place-test .left);
     }
