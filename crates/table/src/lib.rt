@@ -3,12 +3,14 @@
 mod blocks;
 mod decoding;
 mod entries;
+mod fault;
 mod few;
 mod index;
 mod lookup;
 mod names;
 mod records;
 mod scope;
+mod table;
 
 pub use blocks::BlockFault;
 pub use blocks::check_blocks;
@@ -16,6 +18,7 @@ pub use decoding::decode;
 pub use entries::BlockEntry;
 pub use entries::BlockKey;
 pub use entries::RoutineEntry;
+pub use fault::TableFault;
 pub use few::Few;
 pub use lookup::Entry;
 pub use lookup::find;
