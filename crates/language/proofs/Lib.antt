@@ -5,3 +5,4 @@ pub mod Blocks
 pub mod Names
 pub mod Bytes
 pub mod Refusals
+pub mod Props
