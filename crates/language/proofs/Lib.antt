@@ -6,3 +6,4 @@ pub mod Names
 pub mod Bytes
 pub mod Refusals
 pub mod Props
+pub mod Near

@@ -1,7 +1,7 @@
 -- What is claimed of the definitions. Each claim is named by the contract of a function.
 use mathlib.Core.Path.{_≡_}
 use mathlib.Core.List.{List}
-use Prim.Native.Nat.{ℕ}
+use Prim.Native.Nat.{ℕ, _≤_}
 use Rattle.language.specs.declared.record.Record.{Record}
 use Rattle.language.specs.Bytes.{bytes}
 use Rattle.language.specs.WellFormed.{Legible, WellFormed, WellFormedBytes}
@@ -23,3 +23,7 @@ Accepted bs = (l c p : ℕ) → Refused bs l c p → ⊥
 -- any two refusals that fit are the same layer, cause and place
 abbrev pub At-most-one : (ℕ → ℕ → ℕ → Type 0) → Type 0
 At-most-one Fits = (l c p l′ c′ p′ : ℕ) → Fits l c p → Fits l′ c′ p′ → (l ≡ l′) × (c ≡ c′) × (p ≡ p′)
+
+-- no place is above n
+abbrev pub Near : ℕ → (ℕ → ℕ → ℕ → Type 0) → Type 0
+Near n Fits = (l c p : ℕ) → Fits l c p → p ≤ n

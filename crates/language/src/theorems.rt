@@ -4,7 +4,7 @@ ghost use Rattle.language.specs.declared.record.Record.{Record};
 ghost use Rattle.language.specs.Bytes.{encode, bytes, InRange};
 ghost use Rattle.language.specs.WellFormed.{Legible, WellFormedBytes};
 ghost use Rattle.language.specs.Refusals.{Refused};
-ghost use Rattle.language.specs.Theorems.{Fixed-by, Formed-is-clear, Accepted, At-most-one};
+ghost use Rattle.language.specs.Theorems.{Fixed-by, Formed-is-clear, Accepted, At-most-one, Near};
 
 /// Eight bytes stand for at most one record in range.
 pub fn bytes_fix_record()
@@ -33,5 +33,11 @@ pub fn well_formed_is_accepted()
 /// At most one refusal fits.
 pub fn one_refusal_fits()
     ensures { λ _. ⌜ ((bs : List ℕ) → At-most-one (Refused bs)) ⌝ }
+{
+}
+
+/// The place of a refusal is at most 256.
+pub fn refusals_are_near()
+    ensures { λ _. ⌜ ((bs : List ℕ) → Near 256 (Refused bs)) ⌝ }
 {
 }
