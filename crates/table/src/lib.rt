@@ -13,7 +13,6 @@ mod scope;
 mod table;
 
 pub use blocks::BlockFault;
-pub use blocks::check_blocks;
 pub use decoding::decode;
 pub use entries::BlockEntry;
 pub use entries::BlockKey;
@@ -22,5 +21,7 @@ pub use fault::TableFault;
 pub use few::Few;
 pub use lookup::Entry;
 pub use lookup::find;
+pub use names::NameFault;
 pub use records::RecordFault;
-pub use records::check_records;
+pub use table::Table;
+pub use table::check;

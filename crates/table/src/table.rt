@@ -10,6 +10,11 @@ use super::few::Few;
 use super::records::MOST_RECORDS;
 use language::Record;
 
+mod checking;
+mod reading;
+
+pub use checking::check;
+
 /// A table that was checked: its records, which are well formed, and the entries of its headings.
 #[derive(Drop)]
 pub struct Table {
@@ -17,6 +22,6 @@ pub struct Table {
     routines: Few<RoutineEntry, MOST_ROUTINES>,
     blocks: Few<BlockEntry, MOST_BLOCKS>,
     ghost formed: { ∥ WellFormed (held records) ∥₁ },
-    ghost routine_list: { held routines ≡ routine-entries (held records) },
-    ghost block_list: { held blocks ≡ block-entries (held records) },
+    ghost identified: { held routines ≡ routine-entries (held records) },
+    ghost labelled: { held blocks ≡ block-entries (held records) },
 }
