@@ -1,0 +1,29 @@
+-- What is claimed of the definitions. Each claim is named by the contract of a function.
+use mathlib.Core.Path.{_≡_}
+use mathlib.Core.List.{List}
+use Prim.Native.Nat.{ℕ, _≤_}
+use Rattle.language.specs.declared.record.Record.{Record}
+use Rattle.language.specs.Bytes.{bytes}
+use Rattle.language.specs.WellFormed.{Legible, WellFormed, WellFormedBytes}
+use Rattle.language.specs.Refusals.{RecordsClear, BlocksClear, NamesClear, Refused}
+
+-- of what fits, the bytes fix which one it is
+abbrev pub Fixed-by : {X : Type 0} → (X → List ℕ) → (X → Type 0) → Type 0
+Fixed-by {X} bytes-of Fits = (x y : X) → Fits x → Fits y → bytes-of x ≡ bytes-of y → x ≡ y
+
+-- a legible table is well formed exactly where no cause of an upper layer stands; then none of the first does
+pub record Formed-is-clear (t : List Record) : Type 0 where
+  pub formed : Legible t → BlocksClear t → NamesClear t → WellFormed t
+  pub clear : WellFormed t → RecordsClear (bytes t) × BlocksClear t × NamesClear t
+
+-- no refusal fits the bytes of a well-formed table
+abbrev pub Accepted : List ℕ → Type 0
+Accepted bs = (l c p : ℕ) → Refused bs l c p → ⊥
+
+-- any two refusals that fit are the same layer, cause and place
+abbrev pub At-most-one : (ℕ → ℕ → ℕ → Type 0) → Type 0
+At-most-one Fits = (l c p l′ c′ p′ : ℕ) → Fits l c p → Fits l′ c′ p′ → (l ≡ l′) × (c ≡ c′) × (p ≡ p′)
+
+-- no place is above n
+abbrev pub Near : ℕ → (ℕ → ℕ → ℕ → Type 0) → Type 0
+Near n Fits = (l c p : ℕ) → Fits l c p → p ≤ n

@@ -1,0 +1,16 @@
+//! The language of routine tables: its records and instructions, when a table is well formed, and
+//! why one is refused. What a reader has to believe stands in specs/; the theorems about it are
+//! named by the contracts of `theorems`. There is no other code here.
+
+pub mod cause;
+pub mod handler;
+pub mod instruction;
+pub mod record;
+pub mod theorems;
+
+pub use cause::BlockCause;
+pub use cause::NameCause;
+pub use cause::RecordCause;
+pub use handler::Handler;
+pub use instruction::Instruction;
+pub use record::Record;
