@@ -2,5 +2,5 @@ pub mod Ranges
 pub mod Reading
 pub mod Rules
 pub mod Validity
-pub mod Lists
+pub mod Histories
 pub mod SetUps

@@ -9,4 +9,4 @@ pub mod Responds
 pub mod Respond
 pub mod Laws
 pub mod SetUps
-pub mod Lists
+pub mod Histories

@@ -4,7 +4,6 @@
 pub mod action;
 pub mod angle;
 pub mod bench;
-pub mod both;
 pub mod fault;
 pub mod feeder;
 pub mod laws;
@@ -18,8 +17,6 @@ pub mod state;
 pub use action::Action;
 pub use angle::Angle;
 pub use bench::Bench;
-pub use both::Replies;
-pub use both::request_both;
 pub use fault::Fault;
 pub use feeder::Feeder;
 pub use nozzle::Nozzle;

@@ -9,7 +9,14 @@ use super::instruction::InstructionPartialEq;
 /// A routine's heading opens its entry block too, which has no label and no handler.
 #[derive(Clone, Copy, PartialEq, Eq, Debug)]
 pub enum Record {
-    Routine { identifier: u8, parameters: u8, locals: u8 },
-    Block { label: u8, handler: Option<Handler> },
+    Routine {
+        identifier: u8,
+        parameters: u8,
+        locals: u8,
+    },
+    Block {
+        label: u8,
+        handler: Option<Handler>,
+    },
     Body(Instruction),
 }

@@ -9,35 +9,29 @@ ghost use Rattle.language.specs.Theorems.{Fixed-by, Formed-is-clear, Accepted,
 /// Eight bytes stand for at most one record in range.
 pub fn bytes_fix_record()
     ensures { λ _. ⌜ Fixed-by encode InRange ⌝ }
-{
-}
+{}
 
 /// Bytes hold at most one table.
 pub fn bytes_fix_table()
     ensures { λ _. ⌜ Fixed-by bytes Legible ⌝ }
-{
-}
+{}
 
 /// Well formed in positive words is the same as free of every cause.
 pub fn well_formed_is_clear()
     ensures { λ _. ⌜ ((t : List Record) → Formed-is-clear t) ⌝ }
-{
-}
+{}
 
 /// No refusal fits the bytes of a well-formed table.
 pub fn well_formed_is_accepted()
     ensures { λ _. ⌜ ((bs : List ℕ) → WellFormedBytes bs → Accepted bs) ⌝ }
-{
-}
+{}
 
 /// At most one refusal fits.
 pub fn one_refusal_fits()
     ensures { λ _. ⌜ ((bs : List ℕ) → At-most-one (Refused bs)) ⌝ }
-{
-}
+{}
 
 /// The place of a refusal is at most 256.
 pub fn refusals_are_near()
     ensures { λ _. ⌜ ((bs : List ℕ) → Near 256 (Refused bs)) ⌝ }
-{
-}
+{}

@@ -19,9 +19,14 @@ struct Script {
 }
 
 impl Script {
-    /// Takes one more line in. A section that ends with it is performed. A line that may not stand
-    /// here is told by what was expected.
-    fn take(&mut self, rt: &LibcRuntime, line: Line) -> Result<Option<Expected>, AnyError> {
+    /// Takes one more line in, which stands in this text. A section that ends with it is performed. A
+    /// line that may not stand here is told by what was expected.
+    fn take(
+        &mut self,
+        rt: &LibcRuntime,
+        line: Line,
+        text: &[u8],
+    ) -> Result<Option<Expected>, AnyError> {
         match self.position.after(line) {
             Ok(position) => self.position = position,
             Err(expected) => return Ok(Some(expected)),
@@ -34,7 +39,10 @@ impl Script {
             self.finish(rt)?;
             self.section = Some(Section::new(rt.alloc(), first, second, counts));
         } else if let Some(section) = &mut self.section {
-            section.add(line)?;
+            match line {
+                Line::Load => section.load(Line::table(rt.alloc(), text)?)?,
+                _ => section.add(line)?,
+            }
         }
         Ok(None)
     }
@@ -60,8 +68,9 @@ fn run(rt: &LibcRuntime) -> Result<(), AnyError> {
     let mut number = 0u64;
     for text in BufReader::new(rt.stdin()).split(rt.alloc(), b'\n') {
         number = number.saturating_add(1);
-        let unread = match Line::read(&text?) {
-            Ok(Some(line)) => script.take(rt, line)?,
+        let text = text?;
+        let unread = match Line::read(&text) {
+            Ok(Some(line)) => script.take(rt, line, &text)?,
             Ok(None) => None,
             Err(expected) => Some(expected),
         };

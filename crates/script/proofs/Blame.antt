@@ -11,12 +11,13 @@ use Rattle.std.specs.declared.result.Result.{Result}
 use Rattle.std.specs.declared.result.Result.the-variants.{Ok, Err}
 use Rattle.script.specs.Blame.{fields, Meets, Blames, missing, wrong, extra, later}
 use Rattle.script.specs.Fields.{Takes, Lacks}
-use Rattle.script.specs.Lines.{Numbers, Says, bench, turn, jog, state}
+use Rattle.script.specs.Lines.{Numbers, Says, bench, turn, load, jog, state}
 use Rattle.script.specs.Names.{Names}
 use Rattle.script.specs.Numbers.{Writes}
+use Rattle.script.specs.Tables.{Hex, HexIs}
 use Rattle.script.specs.Words.{Word}
 use Rattle.script.specs.declared.expected.Expected.{Expected}
-use Rattle.script.specs.declared.expected.Expected.the-variants.{Kind, Number, Counts, End}
+use Rattle.script.specs.declared.expected.Expected.the-variants.{Kind, Number, Counts, Table, End}
 use Rattle.script.specs.declared.keyword.Keyword.{Keyword}
 use Rattle.script.specs.declared.kind.Kind as kind
 use Rattle.script.specs.declared.line.Line.{Line}
@@ -43,6 +44,7 @@ numbers-fit (w ∷ ws) (z ∷ zs) n = ((z, n .0), numbers-fit ws zs (n .1))
 said-fits : (k : Keyword) (ws : List Word) (x : Line) → Says k ws x → Fit (fields k) ws
 said-fits k ws x (bench {ws = vs} {cs = cs} m n c l) = ((_, m), ((_, n), subst (λ i. Fit (replicate i Counts) vs) l (numbers-fit vs cs c)))
 said-fits k ws x (turn n) = ((_, n), tt)
+said-fits k ws x (load h) = (h, tt)
 said-fits k ws x (jog m n) = ((_, m), ((_, n), tt))
 said-fits k ws x state = tt
 
@@ -106,6 +108,12 @@ module _ (es : List Expected) (ws : List Word) where
 
   pub count-lacking : Lacks Writes ws → Blames (Counts ∷ es) ws Counts
   count-lacking h = lacking Writes Counts es ws Counts (λ w m. m) (refl, h)
+
+  pub table-lacking : (e : Expected) → (e ≡ Table) × Lacks HexIs ws → Blames (Table ∷ es) ws e
+  table-lacking e h = lacking HexIs Table es ws e (λ w m. (tt, m)) h
+
+  pub table-taken : (rest : List Word) (d : Expected) → Takes HexIs ws tt rest → Blames es rest d → Blames (Table ∷ es) ws d
+  table-taken rest d t b = taken Table es ws (t .word) rest d (t .cut) (t .says) b
 
   pub kind-taken : (k : kind.Kind) (rest : List Word) (d : Expected) → Takes Names ws k rest → Blames es rest d → Blames (Kind ∷ es) ws d
   kind-taken k rest d t b = taken Kind es ws (t .word) rest d (t .cut) (k, t .says) b

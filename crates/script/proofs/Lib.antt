@@ -3,6 +3,7 @@ pub mod Numerals
 pub mod Blame
 pub mod Forms
 pub mod Counts
+pub mod Hexes
 pub mod Alone
 pub mod Readings
 pub mod Ordering

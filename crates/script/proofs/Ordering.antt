@@ -10,11 +10,11 @@ use Rattle.std.specs.Vec.{refused}
 use Rattle.std.specs.declared.result.Result.{Result}
 use Rattle.std.specs.declared.result.Result.the-variants.{Ok, Err}
 use Rattle.script.specs.Fields.{Found}
-use Rattle.script.specs.Order.{Open, Next, begins, turns, jogs, ends, wanted}
+use Rattle.script.specs.Order.{Open, Next, begins, turns, loads, jogs, ends, wanted}
 use Rattle.script.specs.declared.expected.Expected.{Expected}
 use Rattle.script.specs.declared.kind.Kind.{Kind}
 use Rattle.script.specs.declared.line.Line.{Line}
-use Rattle.script.specs.declared.line.Line.the-variants.{Bench, Turn, Jog, State}
+use Rattle.script.specs.declared.line.Line.the-variants.{Bench, Turn, Load, Jog, State}
 use Rattle.script.specs.declared.position.Position.{Position}
 use Rattle.script.specs.declared.position.Position.the-variants.{Opened, Within, Closed}
 
@@ -22,12 +22,14 @@ use Rattle.script.specs.declared.position.Position.the-variants.{Opened, Withi
 abbrev leads : Line → Position
 leads (Bench k l cs) = Opened
 leads (Turn z) = Within
+leads Load = Within
 leads (Jog r) = Within
 leads State = Closed
 
 next-is : (p : Position) (l : Line) (q : Position) → Next p l q → q ≡ leads l
 next-is p l q begins = refl
 next-is p l q turns = refl
+next-is p l q (loads o) = refl
 next-is p l q (jogs o) = refl
 next-is p l q (ends o) = refl
 
@@ -52,6 +54,9 @@ begun p l k k′ cs e = rw e begins
 only-turns : (p : Position) (z : ℤ) (s : Position) → Next p (Turn z) s → p ≡ Opened
 only-turns p z s turns = refl
 
+only-loads : (p s : Position) → Next p Load s → Open p
+only-loads p s (loads o) = o
+
 only-jogs : (p : Position) (x : Request) (s : Position) → Next p (Jog x) s → Open p
 only-jogs p x s (jogs o) = o
 
@@ -61,6 +66,9 @@ only-ends p s (ends o) = o
 module _ (p : Position) (l : Line) (r : Result Position Expected) where
   pub turned : (z : ℤ) → l ≡ Turn z → Guarded (p ≡ Opened) p Within r → Ordered p l r
   turned z e g = subst (λ k. Ordered p k r) (sym e) (by-guard _ p Within (Turn z) r (λ f. rw f turns) (only-turns p z) g)
+
+  pub loaded : l ≡ Load → Guarded (Open p) p Within r → Ordered p l r
+  loaded e g = subst (λ k. Ordered p k r) (sym e) (by-guard _ p Within Load r loads (only-loads p) g)
 
   pub jogged : (x : Request) → l ≡ Jog x → Guarded (Open p) p Within r → Ordered p l r
   jogged x e g = subst (λ k. Ordered p k r) (sym e) (by-guard _ p Within (Jog x) r jogs (only-jogs p x) g)

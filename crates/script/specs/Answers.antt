@@ -12,7 +12,7 @@ use Rattle.bench.specs.declared.state.State as bench
 use Rattle.std.specs.Joined.{joined}
 use Rattle.std.specs.Written.{decimal, signed}
 use Rattle.script.specs.declared.answer.Answer.{Answer}
-use Rattle.script.specs.declared.answer.Answer.the-variants.{Done, SetUpRefused, ShiftRefused, Number, Fault, State}
+use Rattle.script.specs.declared.answer.Answer.the-variants.{Done, SetUpRefused, ShiftRefused, TableRefused, Number, Fault, State}
 
 -- a dash where the nozzle is empty
 abbrev pub nozzle-text : Nozzle → List ℕ
@@ -47,6 +47,7 @@ abbrev pub answer-text : Answer → List ℕ
 answer-text Done = codes "ok"
 answer-text (SetUpRefused r) = codes "refused " ++ signed (set-up-number r)
 answer-text (ShiftRefused r) = codes "refused " ++ signed (shift-number r)
+answer-text (TableRefused layer cause place) = codes "refused " ++ (decimal layer ++ (codes " " ++ (decimal cause ++ (codes " " ++ decimal place))))
 answer-text (Number n) = codes "number " ++ signed n
 answer-text (Fault f) = codes "fault " ++ signed (fault-number f)
 answer-text (State s) = state-text s

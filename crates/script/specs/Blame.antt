@@ -6,26 +6,29 @@ use lib.ListN.{getD, replicate}
 use Rattle.script.specs.Lines.{number-sign}
 use Rattle.script.specs.Names.{keyword-name, Names}
 use Rattle.script.specs.Numbers.{Writes}
+use Rattle.script.specs.Tables.{Hex}
 use Rattle.script.specs.Words.{Word}
 use Rattle.script.specs.declared.expected.Expected.{Expected}
 use Rattle.script.specs.declared.expected.Expected.the-variants as expected
 use Rattle.script.specs.declared.keyword.Keyword.{Keyword}
-use Rattle.script.specs.declared.keyword.Keyword.the-variants.{Bench, Turn, Jog, State}
+use Rattle.script.specs.declared.keyword.Keyword.the-variants.{Bench, Turn, Load, Jog, State}
 use Rattle.script.specs.declared.kind.Kind as kind
 
 -- what is expected after a keyword, word by word
 abbrev pub fields : Keyword → List Expected
 fields Bench = expected.Kind ∷ expected.Kind ∷ replicate 8 expected.Counts
 fields Turn = expected.Number ∷ []
+fields Load = expected.Table ∷ []
 fields Jog = expected.Number ∷ expected.Number ∷ []
 fields State = []
 
--- the word w is what is expected; only kinds and numbers are expected of a single word
+-- the word w is what is expected; only kinds, numbers and tables are expected of a single word
 abbrev pub Meets : Expected → Word → Type 0
 Meets expected.Keyword w = ⊥
 Meets expected.Kind w = (k : kind.Kind) × Names w k
 Meets expected.Number w = (z : ℤ) × Writes w z
 Meets expected.Counts w = (z : ℤ) × Writes w z
+Meets expected.Table w = Hex w
 Meets expected.End w = ⊥
 Meets expected.Bench w = ⊥
 Meets expected.Event w = ⊥

@@ -1,4 +1,5 @@
 pub mod Words
+pub mod Tables
 pub mod Numbers
 pub mod Names
 pub mod Fields

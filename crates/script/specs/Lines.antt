@@ -9,9 +9,10 @@ use Rattle.std.specs.declared.option.Option.{Option}
 use Rattle.std.specs.declared.option.Option.the-variants.{Some, None}
 use Rattle.script.specs.Names.{keyword-name, Names}
 use Rattle.script.specs.Numbers.{Writes}
+use Rattle.script.specs.Tables.{Hex}
 use Rattle.script.specs.Words.{Word}
 use Rattle.script.specs.declared.keyword.Keyword.{Keyword}
-use Rattle.script.specs.declared.keyword.Keyword.the-variants.{Bench, Turn, Jog, State}
+use Rattle.script.specs.declared.keyword.Keyword.the-variants.{Bench, Turn, Load, Jog, State}
 use Rattle.script.specs.declared.kind.Kind.{Kind}
 use Rattle.script.specs.declared.line.Line.{Line}
 use Rattle.script.specs.declared.line.Line.the-variants as line
@@ -29,6 +30,8 @@ pub data Says : Keyword → List Word → Line → Type 0 where
   bench : {v w : Word} {ws : List Word} {k l : Kind} {cs : List ℤ} → Names v k → Names w l → Numbers ws cs → length cs ≡ 8 → Says Bench (v ∷ w ∷ ws) (line.Bench k l cs)
   -- turn z
   turn : {w : Word} {z : ℤ} → Writes w z → Says Turn (w ∷ []) (line.Turn z)
+  -- load HEX
+  load : {w : Word} → Hex w → Says Load (w ∷ []) line.Load
   -- jog o y
   jog : {v w : Word} {o y : ℤ} → Writes v o → Writes w y → Says Jog (v ∷ w ∷ []) (line.Jog (record { operation = o; number = y }))
   -- state

@@ -3,13 +3,14 @@ use mathlib.Core.Path.{_≡_}
 use lib.Chars.{codes}
 use Rattle.script.specs.Words.{Word}
 use Rattle.script.specs.declared.keyword.Keyword.{Keyword}
-use Rattle.script.specs.declared.keyword.Keyword.the-variants.{Bench, Turn, Jog, State}
+use Rattle.script.specs.declared.keyword.Keyword.the-variants.{Bench, Turn, Load, Jog, State}
 use Rattle.script.specs.declared.kind.Kind.{Kind}
 use Rattle.script.specs.declared.kind.Kind.the-variants.{Site, Log}
 
 abbrev pub keyword-name : Keyword → Word
 keyword-name Bench = codes "bench"
 keyword-name Turn = codes "turn"
+keyword-name Load = codes "load"
 keyword-name Jog = codes "jog"
 keyword-name State = codes "state"
 

@@ -6,7 +6,7 @@ use Rattle.script.specs.declared.expected.Expected.{Expected}
 use Rattle.script.specs.declared.expected.Expected.the-variants as expected
 use Rattle.script.specs.declared.kind.Kind.{Kind}
 use Rattle.script.specs.declared.line.Line.{Line}
-use Rattle.script.specs.declared.line.Line.the-variants.{Bench, Turn, Jog, State}
+use Rattle.script.specs.declared.line.Line.the-variants.{Bench, Turn, Load, Jog, State}
 use Rattle.script.specs.declared.position.Position.{Position}
 use Rattle.script.specs.declared.position.Position.the-variants.{Start, Opened, Within, Closed}
 
@@ -24,6 +24,7 @@ pub data Next : Position → Line → Position → Type 0 where
   -- the benches are turned right after they are set up, or not at all
   turns : {z : ℤ} → Next Opened (Turn z) Within
   -- any number of events
+  loads : {p : Position} → Open p → Next p Load Within
   jogs : {p : Position} {r : Request} → Open p → Next p (Jog r) Within
   -- the state is asked for once, at the end
   ends : {p : Position} → Open p → Next p State Closed

@@ -20,6 +20,8 @@ pub enum Answer {
     Done,
     SetUpRefused(SetUpRefusal),
     ShiftRefused(ShiftRefusal),
+    /// A table is refused: by which layer of the check, for which cause, at which place.
+    TableRefused { layer: u8, cause: u8, place: usize },
     Number(i32),
     Fault(Fault),
     State(State),
@@ -34,6 +36,11 @@ impl Answer {
             Answer::Done => String::from_str(heap, "ok"),
             Answer::SetUpRefused(refusal) => refused(heap, refusal.number()),
             Answer::ShiftRefused(refusal) => refused(heap, refusal.number()),
+            Answer::TableRefused {
+                layer,
+                cause,
+                place,
+            } => format!(heap, "refused {layer} {cause} {place}"),
             Answer::Number(number) => format!(heap, "number {number}"),
             Answer::Fault(fault) => {
                 let number = fault.number();

@@ -5,9 +5,11 @@ ghost use Rattle.std.specs.Results.{Cases};
 ghost use Rattle.script.specs.Fields.{Takes, Lacks};
 ghost use Rattle.script.specs.Names.{Names};
 ghost use Rattle.script.specs.Numbers.{Writes};
+ghost use Rattle.script.specs.Tables.{HexIs};
 ghost use Rattle.script.specs.Words.{words};
 ghost use Rattle.script.specs.declared.expected.Expected.{Expected};
 use super::expected::Expected;
+use super::hex;
 use super::kind::Kind;
 use super::number;
 use super::words::next_word;
@@ -35,6 +37,20 @@ pub fn number(text: &[u8]) -> Result<(i32, &[u8]), Expected>
     match number::number(word) {
         Some(number) => Ok((number, rest)),
         None => Err(Expected::Number),
+    }
+}
+
+/// The bytes of a table.
+pub fn table(text: &[u8]) -> Result<&[u8], Expected>
+    ensures { λ r. ⌜ Cases r (λ p. Takes HexIs (words (now (text .entry))) tt (words (now p))) (λ e. (e ≡ Expected.Table) × Lacks HexIs (words (now (text .entry)))) ⌝ }
+{
+    let Some((word, rest)) = next_word(text) else {
+        return Err(Expected::Table);
+    };
+    if hex::is_hex(word) {
+        Ok(rest)
+    } else {
+        Err(Expected::Table)
     }
 }
 

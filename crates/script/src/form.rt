@@ -20,6 +20,7 @@ pub fn form(keyword: Keyword, text: &[u8]) -> Result<Line, Expected>
     match keyword {
         Keyword::Bench => bench(text),
         Keyword::Turn => turn(text),
+        Keyword::Load => load(text),
         Keyword::Jog => jog(text),
         Keyword::State => state(text),
     }
@@ -63,6 +64,15 @@ fn turn(text: &[u8]) -> Result<Line, Expected>
     let (shift, text) = field::number(text)?;
     field::end(text)?;
     Ok(Line::Turn(shift))
+}
+
+/// The bytes of a table.
+fn load(text: &[u8]) -> Result<Line, Expected>
+    ensures { λ r. ⌜ Cases r (Says Keyword.Load (words (now (text .entry)))) (Blames (fields Keyword.Load) (words (now (text .entry)))) ⌝ }
+{
+    let text = field::table(text)?;
+    field::end(text)?;
+    Ok(Line::Load)
 }
 
 /// An operation and a number.

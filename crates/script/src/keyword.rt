@@ -8,6 +8,7 @@ ghost use Rattle.script.specs.declared.keyword.Keyword.{Keyword};
 pub enum Keyword {
     Bench,
     Turn,
+    Load,
     Jog,
     State,
 }
@@ -20,6 +21,7 @@ impl Keyword {
         match word {
             b"bench" => Some(Keyword::Bench),
             b"turn" => Some(Keyword::Turn),
+            b"load" => Some(Keyword::Load),
             b"jog" => Some(Keyword::Jog),
             b"state" => Some(Keyword::State),
             _ => None,

@@ -19,6 +19,7 @@ pub mod answer;
 pub mod expected;
 mod field;
 mod form;
+mod hex;
 mod keyword;
 pub mod kind;
 pub mod line;

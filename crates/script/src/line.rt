@@ -16,6 +16,8 @@ pub enum Line {
     },
     /// Both benches turned by a shift.
     Turn(i32),
+    /// A table, whose bytes `Line::table` reads.
+    Load,
     /// One request.
     Jog(Request),
     /// The state of the benches.

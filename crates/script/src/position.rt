@@ -35,6 +35,7 @@ impl Position {
                 counts: _,
             } => Ok(Position::Opened),
             Line::Turn(_) => self.right_after_bench(Position::Within),
+            Line::Load => self.in_section(Position::Within),
             Line::Jog(_) => self.in_section(Position::Within),
             Line::State => self.in_section(Position::Closed),
         }

@@ -1,17 +1,16 @@
 ghost use mathlib.Core.Path.{_≡_};
-ghost use mathlib.Core.List.{_++_, map};
+ghost use mathlib.Core.List.{_++_};
 ghost use Rattle.std.specs.Of.Vec.{vec-items};
 ghost use Rattle.std.specs.Vec.{made};
 ghost use Rattle.bench.specs.SetUps.{SetsUp};
-ghost use Rattle.session.specs.Performs.{Performs, Goes-on, exchange, states, first-of, second-of};
+ghost use Rattle.session.specs.Performs.{Performs, Goes-on, states};
+ghost use Rattle.session.specs.Plays.{first-of, second-of};
 use super::answering::SetUp;
-use super::answering::reply;
 use super::answering::set_up_answer;
 use super::answering::turn_answer;
 use super::exchange::Exchange;
+use super::play::play_both;
 use super::section::Section;
-use bench::Replies;
-use bench::request_both;
 use benches::Inspect;
 use benches::LogBench;
 use benches::SiteBench;
@@ -90,8 +89,8 @@ impl Section {
         self.go_on(heap, first, second, vec![in heap; set_up, turn]?)
     }
 
-    /// Gives both benches the requests of the section, and adds what they answer to what they
-    /// answered before; and their states, if the section asks for them.
+    /// Gives both benches the events of the section, and adds what they answer to what they answered
+    /// before; and their states, if the section asks for them.
     fn go_on<P: Inspect + Drop, Q: Inspect + Drop>(
         &self,
         heap: Global,
@@ -102,28 +101,23 @@ impl Section {
         ensures first { λ r. ⌜ made r (λ v. Goes-on (now (self .entry)) (P·Bench .state first) (first-of (vec-items before)) (first-of (vec-items v))) ⌝ }
         ensures second { λ r. ⌜ made r (λ v. Goes-on (now (self .entry)) (Q·Bench .state second) (second-of (vec-items before)) (second-of (vec-items v))) ⌝ }
     {
-        let unanswered = Replies {
-            first: Ok(0),
-            second: Ok(0),
+        let unanswered = Exchange {
+            first: Answer::Done,
+            second: Answer::Done,
         };
-        let mut slots = vec![in heap; unanswered; self.requests.len()]?;
-        request_both(&mut first, &mut second, &self.requests, &mut slots);
-        let exchanges = with_replies(before, &slots)?;
+        let mut slots = vec![in heap; unanswered; self.events.len()]?;
+        play_both(&mut first, &mut second, &self.events, &mut slots);
+        let exchanges = with_answers(before, &slots)?;
         with_states(exchanges, self.state, &first, &second)
     }
 }
 
-/// Adds the replies to requests to what was answered before.
-fn with_replies(before: Vec<Exchange>, slots: &[Replies]) -> Result<Vec<Exchange>, AllocError>
-    ensures { λ r. ⌜ made r (λ v. vec-items v ≡ vec-items before ++ map exchange (now (slots .entry))) ⌝ }
+/// Adds exchanges to those before.
+fn with_answers(before: Vec<Exchange>, slots: &[Exchange]) -> Result<Vec<Exchange>, AllocError>
+    ensures { λ r. ⌜ made r (λ v. vec-items v ≡ vec-items before ++ now (slots .entry)) ⌝ }
 {
     let mut exchanges = before;
-    for slot in slots {
-        exchanges.push(Exchange {
-            first: reply(slot.first),
-            second: reply(slot.second),
-        })?;
-    }
+    exchanges.extend_from_slice(slots)?;
     Ok(exchanges)
 }
 

@@ -1,11 +1,12 @@
 ghost use mathlib.Core.Bool.{false};
-ghost use mathlib.Core.List.{[]};
+ghost use mathlib.Core.List.{[], _∷_, _++_};
 ghost use mathlib.Core.Path.{_≡_};
 ghost use Rattle.std.specs.Of.Vec.{vec-items};
 ghost use Rattle.std.specs.Results.{Cases};
 ghost use Rattle.std.specs.declared.option.Option.the-variants.{None};
-ghost use Rattle.session.specs.Lines.{turn-with, requests-with, state-with};
-use bench::Request;
+ghost use Rattle.session.specs.Lines.{turn-with, jogs-of, state-with};
+ghost use Rattle.session.specs.declared.event.Event.the-variants.{Load as Loaded};
+use super::event::Event;
 use script::Kind;
 use script::Line;
 use std::alloc::AllocError;
@@ -20,7 +21,7 @@ pub struct Section {
     pub counts: [i32; 8],
     /// By what both benches are turned, if they are.
     pub turn: Option<i32>,
-    pub requests: Vec<Request>,
+    pub events: Vec<Event>,
     /// Whether the state is asked for at the end.
     pub state: bool,
 }
@@ -29,23 +30,23 @@ impl Section {
     /// A section with these benches, that asks nothing yet.
     pub fn new(heap: Global, first: Kind, second: Kind, counts: [i32; 8]) -> Section
         ensures benches { λ r. ⌜ r .first ≡ first ⌝ ∗ ⌜ r .second ≡ second ⌝ ∗ ⌜ r .counts ≡ counts ⌝ }
-        ensures asked { λ r. ⌜ r .turn ≡ None ⌝ ∗ ⌜ vec-items (r .requests) ≡ [] ⌝ ∗ ⌜ r .state ≡ false ⌝ }
+        ensures asked { λ r. ⌜ r .turn ≡ None ⌝ ∗ ⌜ vec-items (r .events) ≡ [] ⌝ ∗ ⌜ r .state ≡ false ⌝ }
     {
         Section {
             first,
             second,
             counts,
             turn: None,
-            requests: Vec::new(heap),
+            events: Vec::new(heap),
             state: false,
         }
     }
 
-    /// Adds what a line asks. Refused memory, the section is as it was.
+    /// Adds what a line other than a load line asks. Refused memory, the section is as it was.
     pub fn add(&mut self, line: Line) -> Result<(), AllocError>
         ensures benches { λ _. ⌜ now (self .exit) .first ≡ now (self .entry) .first ⌝ ∗ ⌜ now (self .exit) .second ≡ now (self .entry) .second ⌝ ∗ ⌜ now (self .exit) .counts ≡ now (self .entry) .counts ⌝ }
         ensures turn { λ _. ⌜ now (self .exit) .turn ≡ turn-with line (now (self .entry) .turn) ⌝ }
-        ensures requests { λ r. ⌜ Cases r (λ _. vec-items (now (self .exit) .requests) ≡ requests-with line (vec-items (now (self .entry) .requests))) (λ _. vec-items (now (self .exit) .requests) ≡ vec-items (now (self .entry) .requests)) ⌝ }
+        ensures events { λ r. ⌜ Cases r (λ _. vec-items (now (self .exit) .events) ≡ vec-items (now (self .entry) .events) ++ jogs-of line) (λ _. vec-items (now (self .exit) .events) ≡ vec-items (now (self .entry) .events)) ⌝ }
         ensures state { λ _. ⌜ now (self .exit) .state ≡ state-with line (now (self .entry) .state) ⌝ }
     {
         match line {
@@ -55,9 +56,20 @@ impl Section {
                 counts: _,
             } => {}
             Line::Turn(shift) => self.turn = Some(shift),
-            Line::Jog(request) => self.requests.push(request)?,
+            Line::Load => {}
+            Line::Jog(request) => self.events.push(Event::Jog(request))?,
             Line::State => self.state = true,
         }
+        Ok(())
+    }
+
+    /// Adds the bytes of a table that is to be loaded. Refused memory, the section is as it was.
+    pub fn load(&mut self, bytes: Vec<u8>) -> Result<(), AllocError>
+        ensures benches { λ _. ⌜ now (self .exit) .first ≡ now (self .entry) .first ⌝ ∗ ⌜ now (self .exit) .second ≡ now (self .entry) .second ⌝ ∗ ⌜ now (self .exit) .counts ≡ now (self .entry) .counts ⌝ }
+        ensures asked { λ _. ⌜ now (self .exit) .turn ≡ now (self .entry) .turn ⌝ ∗ ⌜ now (self .exit) .state ≡ now (self .entry) .state ⌝ }
+        ensures events { λ r. ⌜ Cases r (λ _. vec-items (now (self .exit) .events) ≡ vec-items (now (self .entry) .events) ++ Loaded bytes ∷ []) (λ _. vec-items (now (self .exit) .events) ≡ vec-items (now (self .entry) .events)) ⌝ }
+    {
+        self.events.push(Event::Load(bytes))?;
         Ok(())
     }
 }

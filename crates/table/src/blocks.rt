@@ -8,6 +8,7 @@ use language::cause::BlockCausePartialEq;
 
 /// The most routines and the most blocks that a table has.
 pub const MOST_ROUTINES: usize = 16;
+
 pub const MOST_BLOCKS: usize = 64;
 
 /// The record at a place stands where it must not, or the table ends where it must not.
@@ -61,7 +62,10 @@ pub fn check_blocks(records: &[Record]) -> Result<(), BlockFault>
         flow = Flow::after(*at);
     }
     match flow {
-        Flow::Open => Err(BlockFault { cause: BlockCause::Unclosed, place: records.len() }),
+        Flow::Open => Err(BlockFault {
+            cause: BlockCause::Unclosed,
+            place: records.len(),
+        }),
         _ => Ok(()),
     }
 }

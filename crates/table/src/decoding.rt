@@ -24,15 +24,31 @@ fn read(bytes: [u8; 8]) -> Result<Record, RecordCause>
     match bytes {
         [b'R', _, p, q, ..] if p > 4 || q > 16 - p => Err(RecordCause::Range),
         [b'R', identifier, parameters, locals, 0, 0, 0, 0] => {
-            Ok(Record::Routine { identifier, parameters, locals })
+            Ok(Record::Routine {
+                identifier,
+                parameters,
+                locals,
+            })
         }
-        [b'B', label, 0, 0, 0, 0, 0, 0] => Ok(Record::Block { label, handler: None }),
+        [b'B', label, 0, 0, 0, 0, 0, 0] => Ok(Record::Block {
+            label,
+            handler: None,
+        }),
         [b'B', label, 1, target, catch, 0, 0, 0] => {
-            Ok(Record::Block { label, handler: Some(Handler { label: target, catch }) })
+            Ok(Record::Block {
+                label,
+                handler: Some(Handler {
+                    label: target,
+                    catch,
+                }),
+            })
         }
         [b'B', _, 2..=255, ..] => Err(RecordCause::Range),
         [b'C', x, 0, 0, a, b, c, d] => {
-            Ok(Record::Body(Instruction::Constant { x, value: i32::from_le_bytes([a, b, c, d]) }))
+            Ok(Record::Body(Instruction::Constant {
+                x,
+                value: i32::from_le_bytes([a, b, c, d]),
+            }))
         }
         [b'M', x, y, 0, 0, 0, 0, 0] => Ok(Record::Body(Instruction::Move { x, y })),
         [b'S', x, y, z, 0, 0, 0, 0] => Ok(Record::Body(Instruction::Difference { x, y, z })),
@@ -42,17 +58,28 @@ fn read(bytes: [u8; 8]) -> Result<Record, RecordCause>
         }
         [b'F', _, _, 5..=255, ..] => Err(RecordCause::Range),
         [b'F', x, routine, count, a, b, c, d] if spare(count, [a, b, c, d]) => {
-            Ok(Record::Body(Instruction::Call { x, routine, count, arguments: [a, b, c, d] }))
+            Ok(Record::Body(Instruction::Call {
+                x,
+                routine,
+                count,
+                arguments: [a, b, c, d],
+            }))
         }
         [b'G', label, 0, 0, 0, 0, 0, 0] => Ok(Record::Body(Instruction::Goto { label })),
         [b'T', x, 0, 0, 0, 0, 0, 0] => Ok(Record::Body(Instruction::Return { x })),
         [b'I', x, y, then, otherwise, 0, 0, 0] => {
-            Ok(Record::Body(Instruction::Branch { x, y, then, otherwise }))
+            Ok(Record::Body(Instruction::Branch {
+                x,
+                y,
+                then,
+                otherwise,
+            }))
         }
         [b'X', x, 0, 0, 0, 0, 0, 0] => Ok(Record::Body(Instruction::Raise { x })),
-        [b'R' | b'B' | b'C' | b'M' | b'S' | b'A' | b'F' | b'G' | b'T' | b'I' | b'X', ..] => {
-            Err(RecordCause::Padding)
-        }
+        [
+            b'R' | b'B' | b'C' | b'M' | b'S' | b'A' | b'F' | b'G' | b'T' | b'I' | b'X',
+            ..
+        ] => { Err(RecordCause::Padding) }
         _ => Err(RecordCause::Letter),
     }
 }

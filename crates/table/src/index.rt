@@ -24,18 +24,39 @@ pub fn make_index(records: &[Record]) -> Index
     requires blocks { ⌜ length (block-entries (now records)) ≤ 64 ⌝ }
     ensures { λ r. ⌜ Indexes r (now (records .entry)) ⌝ }
 {
-    let mut routines = Few::new(RoutineEntry { identifier: 0, parameters: 0, place: 0 });
-    let mut blocks = Few::new(BlockEntry { key: BlockKey { routine: 0, label: 0 }, place: 0 });
+    let mut routines = Few::new(RoutineEntry {
+        identifier: 0,
+        parameters: 0,
+        place: 0,
+    });
+    let mut blocks = Few::new(BlockEntry {
+        key: BlockKey {
+            routine: 0,
+            label: 0,
+        },
+        place: 0,
+    });
     let mut scope = Scope::nowhere();
     for (place, at) in records.iter().enumerate() {
         scope = scope.at(*at);
         match *at {
-            Record::Routine { identifier, parameters, .. } => {
-                routines.push(RoutineEntry { identifier, parameters, place });
+            Record::Routine {
+                identifier,
+                parameters,
+                ..
+            } => {
+                routines.push(RoutineEntry {
+                    identifier,
+                    parameters,
+                    place,
+                });
             }
             Record::Block { label, .. } => {
                 let routine = scope.routine;
-                blocks.push(BlockEntry { key: BlockKey { routine, label }, place });
+                blocks.push(BlockEntry {
+                    key: BlockKey { routine, label },
+                    place,
+                });
             }
             Record::Body(_) => {}
         }

@@ -108,9 +108,12 @@ fn is_outside(limit: u16, i: Instruction) -> bool
         Instruction::Difference { x, y, z } => {
             u16::from(x) >= limit || u16::from(y) >= limit || u16::from(z) >= limit
         }
-        Instruction::Call { x, count, arguments, .. } => {
-            u16::from(x) >= limit || passes_outside(limit, count, arguments)
-        }
+        Instruction::Call {
+            x,
+            count,
+            arguments,
+            ..
+        } => { u16::from(x) >= limit || passes_outside(limit, count, arguments) }
         Instruction::Goto { .. } => false,
     }
 }
@@ -121,9 +124,11 @@ fn goes_astray(blocks: &[BlockEntry], routine: u8, i: Instruction) -> bool
 {
     match i {
         Instruction::Goto { label } => lacks(blocks, routine, label),
-        Instruction::Branch { then, otherwise, .. } => {
-            lacks(blocks, routine, then) || lacks(blocks, routine, otherwise)
-        }
+        Instruction::Branch {
+            then,
+            otherwise,
+            ..
+        } => { lacks(blocks, routine, then) || lacks(blocks, routine, otherwise) }
         _ => false,
     }
 }
@@ -218,6 +223,9 @@ pub fn check_names(records: &[Record]) -> Result<Index, NameFault>
     }
     match routine_at(routines, 0) {
         Some(_) => Ok(index),
-        None => Err(NameFault { cause: NameCause::NoMain, place: records.len() }),
+        None => Err(NameFault {
+            cause: NameCause::NoMain,
+            place: records.len(),
+        }),
     }
 }

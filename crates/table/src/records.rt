@@ -24,7 +24,10 @@ pub fn check_records(bytes: &[u8]) -> Result<Few<Record, MOST_RECORDS>, RecordFa
     ensures { λ r. ⌜ Recorded (now (bytes .entry)) r ⌝ }
 {
     if !is_whole(bytes) {
-        return Err(RecordFault { cause: RecordCause::Length, place: 0 });
+        return Err(RecordFault {
+            cause: RecordCause::Length,
+            place: 0,
+        });
     }
     let (rows, _) = bytes.as_chunks::<8>();
     let mut records = Few::new(Record::Body(Instruction::Return { x: 0 }));

@@ -14,7 +14,10 @@ impl Scope {
     pub fn nowhere() -> Scope
         ensures { λ r. ⌜ r ≡ nowhere ⌝ }
     {
-        Scope { routine: 0, variables: 0 }
+        Scope {
+            routine: 0,
+            variables: 0,
+        }
     }
 
     /// Where a record stands that comes after this one; a heading stands in the routine that it opens.
@@ -22,7 +25,11 @@ impl Scope {
         ensures { λ r. ⌜ r ≡ scope-at self next ⌝ }
     {
         match next {
-            Record::Routine { identifier, parameters, locals } => Scope {
+            Record::Routine {
+                identifier,
+                parameters,
+                locals,
+            } => Scope {
                 routine: identifier,
                 variables: u16::from(parameters) + u16::from(locals),
             },

@@ -10,7 +10,10 @@ impl<T: Copy, const N: usize> Few<T, N> {
     pub fn new(fill: T) -> Few<T, N>
         ensures { λ r. ⌜ held r ≡ [] ⌝ }
     {
-        Few { items: [fill; N], count: 0 }
+        Few {
+            items: [fill; N],
+            count: 0,
+        }
     }
 
     /// The values, in the order in which they came.

@@ -1,5 +1,4 @@
 ghost use Rattle.table.specs.Checked.{Checked, Exactly};
-use super::Table;
 use super::super::blocks::check_blocks;
 use super::super::fault::TableFault;
 use super::super::fault::TableFaultFromBlocks;
@@ -8,6 +7,7 @@ use super::super::fault::TableFaultFromRecords;
 use super::super::index::Index;
 use super::super::names::check_names;
 use super::super::records::check_records;
+use super::Table;
 
 /// The table that the bytes hold, if it is well formed, and else the one refusal that fits.
 pub fn check(bytes: &[u8]) -> Result<Table, TableFault>
@@ -18,5 +18,9 @@ pub fn check(bytes: &[u8]) -> Result<Table, TableFault>
     let all = records.as_slice();
     check_blocks(all)?;
     let Index { routines, blocks } = check_names(all)?;
-    Ok(Table { records, routines, blocks })
+    Ok(Table {
+        records,
+        routines,
+        blocks,
+    })
 }

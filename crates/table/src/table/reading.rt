@@ -2,9 +2,9 @@ ghost use mathlib.Core.Path.{_≡_};
 ghost use Rattle.language.specs.Lines.{routine-place, block-place};
 ghost use Rattle.language.specs.WellFormed.{WellFormed};
 ghost use Rattle.table.specs.Checked.{records-of};
-use super::Table;
 use super::super::entries::block_at;
 use super::super::entries::routine_at;
+use super::Table;
 use language::Record;
 
 impl Table {

@@ -14,6 +14,9 @@ returns-in-Number c = ap message (sym (c .in-Number .is))
 pub returns-in-Counts : need.returns-in-Counts
 returns-in-Counts c = ap message (sym (c .in-Counts .is))
 
+pub returns-in-Table : need.returns-in-Table
+returns-in-Table c = ap message (sym (c .in-Table .is))
+
 pub returns-in-End : need.returns-in-End
 returns-in-End c = ap message (sym (c .in-End .is))
 

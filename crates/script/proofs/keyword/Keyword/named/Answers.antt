@@ -13,3 +13,6 @@ returns-in-98 c = text-from-reads _ _ (search needs) (search needs)
 
 pub returns-in-115 : need.returns-in-115
 returns-in-115 c = text-from-reads _ _ (search needs) (search needs)
+
+pub returns-in-108 : need.returns-in-108
+returns-in-108 c = text-from-reads _ _ (search needs) (search needs)

@@ -5,7 +5,8 @@ use Rattle.std.specs.declared.alloc.Global.{Global}
 use Rattle.std.specs.declared.result.Result.{Result}
 use Rattle.std.specs.declared.vec.Vec.{Vec}
 use mathlib.Core.Path.{_≡_}
-use Rattle.session.specs.Performs.{Performs, first-of, second-of}
+use Rattle.session.specs.Performs.{Performs}
+use Rattle.session.specs.Plays.{first-of, second-of}
 use Rattle.session.specs.declared.exchange.Exchange.{Exchange}
 use Rattle.session.specs.declared.section.Section.{Section}
 use Rattle.session.proofs.Performing.{made-both, same-performance}

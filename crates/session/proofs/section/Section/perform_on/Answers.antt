@@ -9,7 +9,7 @@ use Rattle.std.proofs.shelf.Results.{made-weaker}
 use Rattle.std.proofs.shelf.Signed.{toZ-ofZ}
 use Rattle.bench.specs.SetUps.{SetsUp, TurnsBy}
 use Rattle.session.specs.Answering.{set-up-answer, turn-answer}
-use Rattle.session.specs.Performs.{first-of, second-of}
+use Rattle.session.specs.Plays.{first-of, second-of}
 use Rattle.session.proofs.Performing.{plain-performs, turned-performs}
 use Rattle.session.proofs.section.Section.perform_on.Needs as need
 
