@@ -91,3 +91,19 @@ fn no_benches() -> Result<(), Fail> {
     refuses(b"bench site log 1 2 3 4 5 6 7", Expected::Counts)?;
     refuses(b"bench site log 1 2 3 4 5 6 x 8", Expected::Counts)
 }
+
+#[test]
+fn tables(rt: LibcRuntime) -> Result<(), Fail> {
+    asks(b"load 52fF", Line::Load)?;
+    asks(b"load -", Line::Load)?;
+    check_eq(
+        Line::table(rt.alloc(), b"load 52fF")?.as_slice(),
+        &[0x52, 0xff],
+    )?;
+    check_eq(Line::table(rt.alloc(), b"load -")?.len(), 0)?;
+    refuses(b"load", Expected::Table)?;
+    refuses(b"load 520", Expected::Table)?;
+    refuses(b"load 5g", Expected::Table)?;
+    refuses(b"load --", Expected::Table)?;
+    refuses(b"load 52 00", Expected::End)
+}

@@ -86,6 +86,16 @@ fn a_used_state(rt: LibcRuntime) -> Result<(), Fail> {
 }
 
 #[test]
+fn refused_tables(rt: LibcRuntime) -> Result<(), Fail> {
+    let refused = Answer::TableRefused {
+        layer: 3,
+        cause: 11,
+        place: 256,
+    };
+    writes(rt, refused, "refused 3 11 256")
+}
+
+#[test]
 fn pairs(rt: LibcRuntime) -> Result<(), Fail> {
     let heap = rt.alloc();
     check_eq(
