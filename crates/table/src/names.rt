@@ -10,10 +10,9 @@ use super::scope::Scope;
 use language::NameCause;
 use language::Record;
 use language::cause::NameCauseDebug;
-use language::cause::NameCausePartialEq;
 
 /// A name at a place is borne twice, or stands for nothing.
-#[derive(Clone, Copy, PartialEq, Eq, Debug)]
+#[derive(Clone, Copy, Debug)]
 pub struct NameFault {
     pub cause: NameCause,
     pub place: usize,
