@@ -2,19 +2,11 @@
 use mathlib.Core.Path.{_≡_}
 use mathlib.Core.List.{List}
 use Prim.Native.Nat.{ℕ, _≤_}
-use Rattle.language.specs.declared.record.Record.{Record}
-use Rattle.language.specs.Bytes.{bytes}
-use Rattle.language.specs.WellFormed.{Legible, WellFormed, WellFormedBytes}
-use Rattle.language.specs.Refusals.{RecordsClear, BlocksClear, NamesClear, Refused}
+use Rattle.language.specs.Refusals.{Refused}
 
 -- of what fits, the bytes fix which one it is
 abbrev pub Fixed-by : {X : Type 0} → (X → List ℕ) → (X → Type 0) → Type 0
 Fixed-by {X} bytes-of Fits = (x y : X) → Fits x → Fits y → bytes-of x ≡ bytes-of y → x ≡ y
-
--- a legible table is well formed exactly where no cause of an upper layer stands; then none of the first does
-pub record Formed-is-clear (t : List Record) : Type 0 where
-  pub formed : Legible t → BlocksClear t → NamesClear t → WellFormed t
-  pub clear : WellFormed t → RecordsClear (bytes t) × BlocksClear t × NamesClear t
 
 -- no refusal fits the bytes of a well-formed table
 abbrev pub Accepted : List ℕ → Type 0

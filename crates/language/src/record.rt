@@ -1,13 +1,9 @@
 use super::handler::Handler;
-use super::handler::HandlerDebug;
-use super::handler::HandlerPartialEq;
 use super::instruction::Instruction;
-use super::instruction::InstructionDebug;
-use super::instruction::InstructionPartialEq;
 
 /// A record of a table: the heading of a routine or of a block, or an instruction in a block's body.
 /// A routine's heading opens its entry block too, which has no label and no handler.
-#[derive(Clone, Copy, PartialEq, Eq, Debug)]
+#[derive(Clone, Copy)]
 pub enum Record {
     Routine {
         identifier: u8,

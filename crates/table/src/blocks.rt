@@ -4,7 +4,6 @@ use language::BlockCause;
 use language::Instruction;
 use language::Record;
 use language::cause::BlockCauseDebug;
-use language::cause::BlockCausePartialEq;
 
 /// The most routines and the most blocks that a table has.
 pub const MOST_ROUTINES: usize = 16;
@@ -12,14 +11,14 @@ pub const MOST_ROUTINES: usize = 16;
 pub const MOST_BLOCKS: usize = 64;
 
 /// The record at a place stands where it must not, or the table ends where it must not.
-#[derive(Clone, Copy, PartialEq, Eq, Debug)]
+#[derive(Clone, Copy, Debug)]
 pub struct BlockFault {
     pub cause: BlockCause,
     pub place: usize,
 }
 
 /// What comes before a record: nothing, a block that is still open, or one that is closed.
-#[derive(Clone, Copy, PartialEq, Eq, Debug)]
+#[derive(Clone, Copy)]
 enum Flow {
     Start,
     Open,

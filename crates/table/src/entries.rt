@@ -8,7 +8,7 @@ use super::lookup::find;
 
 /// A routine, as it is looked up: its identifier, how many parameters it takes, and the place of its
 /// heading.
-#[derive(Clone, Copy, PartialEq, Eq, Debug)]
+#[derive(Clone, Copy)]
 pub struct RoutineEntry {
     pub identifier: u8,
     pub parameters: u8,
@@ -26,14 +26,14 @@ pub impl Entry for RoutineEntry as RoutineEntryEntry {
 }
 
 /// What tells blocks apart: the routine that they are in, and their label.
-#[derive(Clone, Copy, PartialEq, Eq, Debug)]
+#[derive(Clone, Copy, PartialEq, Eq)]
 pub struct BlockKey {
     pub routine: u8,
     pub label: u8,
 }
 
 /// A block, as it is looked up: its key and the place of its heading.
-#[derive(Clone, Copy, PartialEq, Eq, Debug)]
+#[derive(Clone, Copy)]
 pub struct BlockEntry {
     pub key: BlockKey,
     pub place: usize,

@@ -2,18 +2,15 @@ ghost use mathlib.Core.Path.{_≡_};
 ghost use Rattle.table.specs.declared.fault.TableFault.the-variants.{Records, Blocks, Names};
 use super::blocks::BlockFault;
 use super::blocks::BlockFaultDebug;
-use super::blocks::BlockFaultPartialEq;
 use super::names::NameFault;
 use super::names::NameFaultDebug;
-use super::names::NameFaultPartialEq;
 use super::records::RecordFault;
 use super::records::RecordFaultDebug;
-use super::records::RecordFaultPartialEq;
 
 mod numbers;
 
 /// Why some bytes are no table: the fault of the layer that found one.
-#[derive(Clone, Copy, PartialEq, Eq, Debug)]
+#[derive(Clone, Copy, Debug)]
 pub enum TableFault {
     Records(RecordFault),
     Blocks(BlockFault),

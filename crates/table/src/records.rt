@@ -7,13 +7,12 @@ use language::Instruction;
 use language::Record;
 use language::RecordCause;
 use language::cause::RecordCauseDebug;
-use language::cause::RecordCausePartialEq;
 
 /// The most records that a table has.
 pub const MOST_RECORDS: usize = 256;
 
 /// The bytes at a place make no record.
-#[derive(Clone, Copy, PartialEq, Eq, Debug)]
+#[derive(Clone, Copy, Debug)]
 pub struct RecordFault {
     pub cause: RecordCause,
     pub place: usize,

@@ -3,7 +3,7 @@ ghost use Rattle.table.specs.Scopes.{nowhere, scope-at};
 use language::Record;
 
 /// Where a record stands: in which routine, and how many variables that routine has.
-#[derive(Clone, Copy, PartialEq, Eq, Debug)]
+#[derive(Clone, Copy)]
 pub struct Scope {
     pub routine: u8,
     pub variables: u16,
