@@ -7,3 +7,6 @@ pub mod Bytes
 pub mod Refusals
 pub mod Props
 pub mod Near
+pub mod Flow
+pub mod Frames
+pub mod NextBeat

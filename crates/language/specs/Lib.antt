@@ -6,3 +6,7 @@ pub mod WellFormed
 pub mod Causes
 pub mod Refusals
 pub mod Theorems
+pub mod Runs
+pub mod Beats
+pub mod Reachable
+pub mod BeatLaws

@@ -2,7 +2,9 @@
 //! why one is refused. What a reader has to believe stands in specs/; the theorems about it are
 //! named by the contracts of `theorems`. There is no other code here.
 
+pub mod beats;
 pub mod cause;
+pub mod ending;
 pub mod handler;
 pub mod instruction;
 pub mod record;
@@ -11,6 +13,7 @@ pub mod theorems;
 pub use cause::BlockCause;
 pub use cause::NameCause;
 pub use cause::RecordCause;
+pub use ending::Ending;
 pub use handler::Handler;
 pub use instruction::Instruction;
 pub use record::Record;
