@@ -10,3 +10,5 @@ pub mod Near
 pub mod Flow
 pub mod Frames
 pub mod NextBeat
+pub mod BeatSteps
+pub mod DirectCalls

@@ -113,7 +113,7 @@ module _ (t : List Record) where
     beat-leads (raise e q) x d = let w = raises-leads q in cc
 
     -- a beat is made at an instruction
-    beat-at : {b b′ : Standing} {r : Run State} → Beat t s b r b′ → (x : Instruction) × (nth t (s .at) ≡ Some (Body x))
+    pub beat-at : {b b′ : Standing} {r : Run State} → Beat t s b r b′ → (x : Instruction) × (nth t (s .at) ≡ Some (Body x))
     beat-at (constant e) = (_, e)
     beat-at (move e) = (_, e)
     beat-at (subtract e) = (_, e)

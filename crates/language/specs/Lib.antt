@@ -10,3 +10,6 @@ pub mod Runs
 pub mod Beats
 pub mod Reachable
 pub mod BeatLaws
+pub mod Refused
+pub mod Calls
+pub mod Direct

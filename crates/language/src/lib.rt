@@ -4,10 +4,12 @@
 
 pub mod beats;
 pub mod cause;
+pub mod direct;
 pub mod ending;
 pub mod handler;
 pub mod instruction;
 pub mod record;
+pub mod refusal;
 pub mod theorems;
 
 pub use cause::BlockCause;
@@ -17,3 +19,5 @@ pub use ending::Ending;
 pub use handler::Handler;
 pub use instruction::Instruction;
 pub use record::Record;
+pub use refusal::GoRefusal;
+pub use refusal::StartRefusal;
