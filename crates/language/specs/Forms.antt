@@ -23,7 +23,7 @@ closing (Return x) = true
 closing (Branch x y then otherwise) = true
 closing (Raise x) = true
 
--- after the record a block is open; a heading opens one
+-- the record closes a block; a heading opens one
 abbrev pub closes : Record → Bool
 closes (Routine identifier parameters locals) = false
 closes (Block label handler) = false

@@ -8,7 +8,7 @@ use Rattle.language.specs.Refusals.{Refused}
 abbrev pub Fixed-by : {X : Type 0} → (X → List ℕ) → (X → Type 0) → Type 0
 Fixed-by {X} bytes-of Fits = (x y : X) → Fits x → Fits y → bytes-of x ≡ bytes-of y → x ≡ y
 
--- no refusal fits the bytes of a well-formed table
+-- no refusal fits the bytes
 abbrev pub Accepted : List ℕ → Type 0
 Accepted bs = (l c p : ℕ) → Refused bs l c p → ⊥
 

@@ -30,6 +30,7 @@ module _ (t : List Record) where
     pub flows : (i : ℕ) (x : Record) → nth t i ≡ Some x → closes x ≡ false → (y : Instruction) × (nth t (suc i) ≡ Some (Body y))
     -- where a block is closed no instruction follows, so each one ends once
     pub ends : (i : ℕ) (x y : Record) → nth t i ≡ Some x → closes x ≡ true → nth t (suc i) ≡ Some y → is-heading y ≡ true
+    -- few enough routines, and blocks with a label
     pub routines : countBy is-routine t ≤ 16
     pub blocks : countBy is-block t ≤ 64
 
