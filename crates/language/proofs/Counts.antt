@@ -37,6 +37,7 @@ module _ {X : Type 0} (f : X → Bool) (xs : List X) where
           let full : countBy f (take p xs) ≡ top → ⊥ = never p x e h in
           let c = count-yes p x e h in omega arith
       step x e back false h = let c = count-no p x e h in omega arith
+
       by : countBy f (take p xs) ≤ top → (x : X) × (nth xs p ≡ Some x) → countBy f (take (suc p) xs) ≤ top
       by back at = rw (← add-one p) (step (at .0) (at .1) back (f (at .0)) refl)
 

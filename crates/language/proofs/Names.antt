@@ -57,6 +57,7 @@ module _ (t : List Record) where
       fits : (j p q : ℕ) → Enters t g j p q → (p ≡ n) ⊎ (p ≡ n → ⊥) → (Absent t (called g n) ⊎ Miscounted t (called g n)) ⊎ HasRoutine t g n
       fits j p q at (inl e) = inr (record { at = j; locals = q; here = rw (sym e) at })
       fits j p q at (inr e) = inl (inr (j, p, q, at, e))
+
       by : (o : Option ℕ) → routine-place t g ≡ o → (Absent t (called g n) ⊎ Miscounted t (called g n)) ⊎ HasRoutine t g n
       by None e = inl (inl e)
       by (Some j) e = let at = enters g j e in fits j (at .0) (at .1) (at .2) (cases-eq (at .0) n)

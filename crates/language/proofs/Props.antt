@@ -22,10 +22,11 @@ no-prop a b = absurd a
 
 spare-prop : (n : ℕ) (xs : List ℕ) → IsProp (Spare n xs)
 spare-prop n xs a b = λ i. (
-    λ l. ℕ-set (getD xs 0 0) 0 (a .0 l) (b .0 l) i,
-    λ l. ℕ-set (getD xs 1 0) 0 (a .1 l) (b .1 l) i,
-    λ l. ℕ-set (getD xs 2 0) 0 (a .2 l) (b .2 l) i,
-    λ l. ℕ-set (getD xs 3 0) 0 (a .3 l) (b .3 l) i)
+  λ l. ℕ-set (getD xs 0 0) 0 (a .0 l) (b .0 l) i,
+  λ l. ℕ-set (getD xs 1 0) 0 (a .1 l) (b .1 l) i,
+  λ l. ℕ-set (getD xs 2 0) 0 (a .2 l) (b .2 l) i,
+  λ l. ℕ-set (getD xs 3 0) 0 (a .3 l) (b .3 l) i,
+)
 
 in-range-prop : (x : Record) → IsProp (InRange x)
 in-range-prop (Routine g p q) a b = ×-prop le-prop le-prop a b

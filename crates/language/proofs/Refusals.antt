@@ -23,6 +23,7 @@ module _ {K : Type 0} (number : K → ℕ) (Stands : K → ℕ → Type 0) where
       same e (inl h) = h
       same e (inr (inl h)) = absurd (g .lower k h (subst (Stands k) e (f .here)))
       same e (inr (inr h)) = absurd (f .lower j h (subst (Stands j) (sym e) (g .here)))
+
       by : (p ≡ q) ⊎ ((p < q) ⊎ (q < p)) → (number k ≡ number j) × (p ≡ q)
       by (inl e) = (same e (cases-order (number k) (number j)), e)
       by (inr (inl h)) = absurd (g .before k p h (f .here))
@@ -66,8 +67,10 @@ sound-accepted bs s l c p r = by r
   where
     held : Holds bs (s .table)
     held = record { same = s .same; legible = s .formed .legible }
+
     clear : RecordsClear (bytes (s .table)) × BlocksClear (s .table) × NamesClear (s .table)
     clear = formed-clear (s .table) (s .formed)
+
     by : {l c p : ℕ} → Refused bs l c p → ⊥
     by (by-records k q f) = Y.records-clear bs (s .table) held k q (f .here)
     by (by-blocks u k q d held′ f) = clear .1 k q (subst (λ (v : List Record). InBlocks v k q) (held-once bs u (s .table) held′ held) (f .here))

@@ -64,8 +64,10 @@ module _ (t : List Record) (p : ℕ) (f : Flow) (n m : ℕ) (far : Sofar t p f n
       crowded : ((is-routine x ≡ true) × (n ≡ 16)) ⊎ ((is-block x ≡ true) × (m ≡ 64)) → InBlocks t Crowded p
       crowded (inl h) = crowded-routine p is (h .0) (sym (far .routines) ∙ h .1)
       crowded (inr h) = crowded-block p is (h .0) (sym (far .blocks) ∙ h .1)
+
       at : (k : BlockCause) (q : ℕ) → p ≡ q → (nth t q ≡ Some x → InBlocks t k q) → InBlocks t k p
       at k q e make = subst (InBlocks t k) (sym e) (make (subst (λ v. nth t v ≡ Some x) e is))
+
       by : (f : Flow) → Before t p f → (k : BlockCause) → Bad f x n m k → InBlocks t k p
       by Start b Headless h = at Headless 0 b (λ e. headless e h)
       by Open b Headless h = absurd h

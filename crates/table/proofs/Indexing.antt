@@ -90,7 +90,7 @@ module _ (t : List Record) (p : ℕ) (s : Scope) (far : Under t p s) where
       let d = drop-nth t p x is in
       let r = far .rest in
       let all : drop p (lines t) ≡ line (s′ .routine) (s′ .variables) h x ∷ lines-after (s′ .routine) (s′ .variables) h (drop (suc p) t) =
-          sym r ∙ ap (lines-after (s .routine) (s .variables) (far .handler)) d ∙ e in
+      sym r ∙ ap (lines-after (s .routine) (s .variables) (far .handler)) d ∙ e in
       let at = nth-drop (lines t) p _ _ all in
       (subst (λ v. Under t v s′) (sym (add-one p)) (record { handler = h; rest = sym (at .1) }), record { handler = h; is = at .0 })
 
@@ -107,10 +107,10 @@ pub record Sofar (t : List Record) (p : ℕ) (s : Scope) (rs : List RoutineEntry
 
 pub start : (t : List Record) (s : Scope) (rs : List RoutineEntry) (bs : List BlockEntry) → s ≡ nowhere → rs ≡ [] → bs ≡ [] → Sofar t 0 s rs bs
 start t s rs bs es er eb = record {
-    under = subst (Under t 0) (sym es) (under-start t);
-    routines = subst (λ v. Picked routine-entry t v 0) (sym er) (picked-start routine-entry t);
-    blocks = subst (λ v. Picked block-entry (lines t) v 0) (sym eb) (picked-start block-entry (lines t));
-  }
+  under = subst (Under t 0) (sym es) (under-start t);
+  routines = subst (λ v. Picked routine-entry t v 0) (sym er) (picked-start routine-entry t);
+  blocks = subst (λ v. Picked block-entry (lines t) v 0) (sym eb) (picked-start block-entry (lines t));
+}
 
 module _ (t : List Record) (p : ℕ) (s : Scope) (rs : List RoutineEntry) (bs : List BlockEntry) (far : Sofar t p s rs bs)
     (x : Record) (is : nth t p ≡ Some x) (s′ : Scope) (at : s′ ≡ scope-at s x) where

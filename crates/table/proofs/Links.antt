@@ -110,7 +110,10 @@ module _ (g : ℕ) where
           let n : 0 + b .j ≡ b .j = omega arith in
           let is : Some (record { identifier = g; parameters = r .0; place = b .j }) ≡ Some (b .e) = (λ i. routine-entry (sym n i) (sym x i)) ∙ b .is in
           inr (record {
-            j = b .j; k = b .k; parameters = r .0; locals = r .1;
+            j = b .j;
+            k = b .k;
+            parameters = r .0;
+            locals = r .1;
             enters = record { first = b .here; there = cc };
             there = b .there;
             entry = read (routine-entries t) (b .k) (b .e) no-routine-entry (b .entry) ∙ sym (some-same _ _ is);
@@ -142,6 +145,7 @@ module _ (r l : ℕ) where
           let n : 0 + j ≡ j = omega arith in
           let is : Some (record { key = record { routine = r; label = l }; place = j }) ≡ Some e = (λ i. block-entry (sym n i) (sym (b .is) i)) ∙ h in
           ap (λ (v : BlockEntry). v .place) (sym (some-same _ _ is))
+
       by : Neither block-entry (heads-block r l) (of-block r l) block-alike block-none 0 (lines t) ⊎ Both block-entry (heads-block r l) (of-block r l) block-alike block-none 0 (lines t) → block-at (block-entries t) r l ≡ block-place t r l
       by (inl n) = ap (block-placed (block-entries t)) (n .there) ∙ sym (n .here)
       by (inr b) =

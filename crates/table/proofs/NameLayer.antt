@@ -180,7 +180,7 @@ module _ (t : List Record) (s : Scope) (far : Sofar t (length t) s) where
 
   pub main-missing : routine-place t 0 ≡ None → First name-number (InNames t) NoMain (length t)
   main-missing e = record {
-      here = no-main e;
-      before = far .clear;
-      lower = λ j l h. let z = ap name-number (past t j (length t) (omega arith) h .cause) in absurd (omega arith);
-    }
+    here = no-main e;
+    before = far .clear;
+    lower = λ j l h. let z = ap name-number (past t j (length t) (omega arith) h .cause) in absurd (omega arith);
+  }

@@ -37,9 +37,9 @@ all-push P (y ∷ xs) x a h = (a .0, all-push P xs x (a .1) h)
 
 pub more : (rs : List (List ℕ)) (t : List Record) (p : ℕ) (x : Record) → p < length rs → Stands-for (getD rs p []) x → Sofar rs t p → Sofar rs (t ++ x ∷ []) (p + 1)
 more rs t p x on here far = record {
-    same = map-append encode t (x ∷ []) ∙ (λ i. far .same i ++ here .same i ∷ []) ∙ sym (take-more rs p [] on);
-    ranged = all-push InRange t x (far .ranged) (here .ranged);
-  }
+  same = map-append encode t (x ∷ []) ∙ (λ i. far .same i ++ here .same i ∷ []) ∙ sym (take-more rs p [] on);
+  ranged = all-push InRange t x (far .ranged) (here .ranged);
+}
 
 nth-take : {X : Type 0} (xs : List X) (p q : ℕ) → q < p → nth (take p xs) q ≡ nth xs q
 nth-take [] zero q l = refl

@@ -59,10 +59,10 @@ module _ (bs : List ℕ) (t : List Record) (holds : Holds bs t) (clear : BlocksC
 -- what is answered is exactly what fits
 only : (bs : List ℕ) (l c p : ℕ) → Refused bs l c p → Only bs l c p
 only bs l c p r = record {
-    malformed = λ s. sound-accepted bs s l c p r;
-    only = λ l′ c′ p′ r′. refused-once bs l′ c′ p′ l c p r′ r;
-    near = refused-near bs l c p r;
-  }
+  malformed = λ s. sound-accepted bs s l c p r;
+  only = λ l′ c′ p′ r′. refused-once bs l′ c′ p′ l c p r′ r;
+  near = refused-near bs l c p r;
+}
 
 pub alone : (bs : List ℕ) (t : List Record) → Accepts bs t → WellFormedBytes bs × ((l c p : ℕ) → Refused bs l c p → ⊥)
 alone bs t a =

@@ -23,6 +23,9 @@ fn read(bytes: [u8; 8]) -> Result<Record, RecordCause>
 {
     match bytes {
         [b'R', _, p, q, ..] if p > 4 || q > 16 - p => Err(RecordCause::Range),
+        [b'B', _, 2..=255, ..] | [b'A', _, 6..=255, ..] | [b'F', _, _, 5..=255, ..] => {
+            Err(RecordCause::Range)
+        }
         [b'R', identifier, parameters, locals, 0, 0, 0, 0] => {
             Ok(Record::Routine { identifier, parameters, locals })
         }
@@ -30,17 +33,14 @@ fn read(bytes: [u8; 8]) -> Result<Record, RecordCause>
         [b'B', label, 1, target, catch, 0, 0, 0] => {
             Ok(Record::Block { label, handler: Some(Handler { label: target, catch }) })
         }
-        [b'B', _, 2..=255, ..] => Err(RecordCause::Range),
         [b'C', x, 0, 0, a, b, c, d] => {
             Ok(Record::Body(Instruction::Constant { x, value: i32::from_le_bytes([a, b, c, d]) }))
         }
         [b'M', x, y, 0, 0, 0, 0, 0] => Ok(Record::Body(Instruction::Move { x, y })),
         [b'S', x, y, z, 0, 0, 0, 0] => Ok(Record::Body(Instruction::Difference { x, y, z })),
-        [b'A', _, 6..=255, ..] => Err(RecordCause::Range),
         [b'A', x, operation, y, 0, 0, 0, 0] => {
             Ok(Record::Body(Instruction::Request { x, operation, y }))
         }
-        [b'F', _, _, 5..=255, ..] => Err(RecordCause::Range),
         [b'F', x, routine, count, a, b, c, d] if spare(count, [a, b, c, d]) => {
             Ok(Record::Body(Instruction::Call { x, routine, count, arguments: [a, b, c, d] }))
         }

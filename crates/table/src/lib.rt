@@ -5,12 +5,14 @@ mod decoding;
 mod entries;
 mod fault;
 mod few;
+mod flaws;
 mod index;
 mod lookup;
 mod names;
 mod records;
 mod scope;
 mod table;
+mod variables;
 
 pub use blocks::BlockFault;
 pub use decoding::decode;

@@ -22,9 +22,9 @@ loop-place-again c =
     let d = Routine 0 0 0 in
     let next = more t p _ _ _ (c .loop-place .inv) (getD t p d) (nth-getD t p d (c .loop-place-test .taken)) _ _ _ (c .in-rest .ensures tt) (c .after-flow .ensures) in
     elim (c .match-at .came) [
-      in-Routine w ↦ next _ (w .in-Routine .is) (w .routines-is) (w .blocks-is)
-    | in-Block w ↦ next _ (w .in-Block .is) (w .routines-is) (w .blocks-is)
-    | in-Body w ↦ next _ (w .in-Body .is) (w .routines-is) (w .blocks-is)
+      | in-Routine w ↦ next _ (w .in-Routine .is) (w .routines-is) (w .blocks-is)
+      | in-Block w ↦ next _ (w .in-Block .is) (w .routines-is) (w .blocks-is)
+      | in-Body w ↦ next _ (w .in-Body .is) (w .routines-is) (w .blocks-is)
     ]
 
 -- the loop has come to the end

@@ -36,9 +36,9 @@ loop-place-again c =
     let d = Routine 0 0 0 in
     let on = nth-getD t p d (c .loop-place-test .taken) in
     elim (c .match-at .came) [
-      in-Routine w ↦ more-routine t p _ _ _ (c .loop-place .inv) (getD t p d) on _ (c .at-scope .ensures) _ _ _ _ _ (w .in-Routine .is) (ap held (w .routines-is) ∙ w .push .ensures) (ap held (w .blocks-is))
-    | in-Block w ↦ more-block t p _ _ _ (c .loop-place .inv) (getD t p d) on _ (c .at-scope .ensures) _ _ _ _ (w .in-Block .is) (ap held (w .routines-is)) (ap held (w .blocks-is) ∙ w .push-in-Block .ensures)
-    | in-Body w ↦ more-body t p _ _ _ (c .loop-place .inv) (getD t p d) on _ (c .at-scope .ensures) _ _ _ (w .in-Body .is) (ap held (w .routines-is)) (ap held (w .blocks-is))
+      | in-Routine w ↦ more-routine t p _ _ _ (c .loop-place .inv) (getD t p d) on _ (c .at-scope .ensures) _ _ _ _ _ (w .in-Routine .is) (ap held (w .routines-is) ∙ w .push .ensures) (ap held (w .blocks-is))
+      | in-Block w ↦ more-block t p _ _ _ (c .loop-place .inv) (getD t p d) on _ (c .at-scope .ensures) _ _ _ _ (w .in-Block .is) (ap held (w .routines-is)) (ap held (w .blocks-is) ∙ w .push-in-Block .ensures)
+      | in-Body w ↦ more-body t p _ _ _ (c .loop-place .inv) (getD t p d) on _ (c .at-scope .ensures) _ _ _ (w .in-Body .is) (ap held (w .routines-is)) (ap held (w .blocks-is))
     ]
 
 pub returns : need.returns

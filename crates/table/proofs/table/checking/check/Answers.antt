@@ -45,7 +45,7 @@ returns-in-Break-routines c =
     let r = c .from-residual-in-Break-routines .result in
     let p = err-from-errBy r (c .from-residual-in-Break-routines .ensures .1) in
     let h : Checked bs r = subst (Checked bs) (sym (p .1 ∙ ap Err (p .2)))
-        (by-layer-3 bs _ _ (holding (need.at·returns-in-Break-routines c .After-as-slice-all)) (c .in-Continue-check-blocks .ensures tt) (c .in-Break-routines .ensures tt)) in
+    (by-layer-3 bs _ _ (holding (need.at·returns-in-Break-routines c .After-as-slice-all)) (c .in-Continue-check-blocks .ensures tt) (c .in-Break-routines .ensures tt)) in
     record { checked = h; exactly = exactly bs r h }
 
 -- the records are accepted

@@ -2,7 +2,7 @@ use mathlib.Core.Path.{_≡_}
 use lib.ListN.{length}
 use borrow.Author.Needs.{needs}
 use Rattle.table.proofs.Passing.{passed-outside}
-use Rattle.table.proofs.names.passes_outside.Needs as need
+use Rattle.table.proofs.variables.passes_outside.Needs as need
 
 pub returns : need.returns
 returns c =
