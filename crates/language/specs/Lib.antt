@@ -6,3 +6,5 @@ pub mod WellFormed
 pub mod Causes
 pub mod Refusals
 pub mod Theorems
+pub mod Translation
+pub mod Code

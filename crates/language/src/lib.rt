@@ -5,12 +5,17 @@
 pub mod cause;
 pub mod handler;
 pub mod instruction;
+pub mod operation;
 pub mod record;
 pub mod theorems;
+pub mod translation;
+pub mod word;
 
 pub use cause::BlockCause;
 pub use cause::NameCause;
 pub use cause::RecordCause;
 pub use handler::Handler;
 pub use instruction::Instruction;
+pub use operation::Operation;
 pub use record::Record;
+pub use word::Word;

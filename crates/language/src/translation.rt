@@ -1,0 +1,1 @@
+//! What is claimed of the translation of a table to continuation form.
