@@ -7,3 +7,5 @@ pub mod Bytes
 pub mod Refusals
 pub mod Props
 pub mod Near
+pub mod Words
+pub mod Sizes

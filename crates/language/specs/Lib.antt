@@ -8,3 +8,4 @@ pub mod Refusals
 pub mod Theorems
 pub mod Translation
 pub mod Code
+pub mod Translated
