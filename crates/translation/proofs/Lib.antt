@@ -1,0 +1,4 @@
+pub mod Finding
+pub mod Entering
+pub mod Passing
+pub mod Collecting
