@@ -2,3 +2,6 @@ pub mod Finding
 pub mod Entering
 pub mod Passing
 pub mod Collecting
+pub mod Appending
+pub mod Recording
+pub mod Tabling

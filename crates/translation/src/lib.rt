@@ -5,5 +5,6 @@ mod context;
 mod encoding;
 mod targets;
 mod words;
+mod writing;
 
 pub use encoding::encode;
