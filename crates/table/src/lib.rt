@@ -20,6 +20,8 @@ pub use entries::BlockEntry;
 pub use entries::BlockKey;
 pub use entries::RoutineEntry;
 pub use fault::TableFault;
+pub use fault::TableFaultDebug;
+pub use fault::TableFaultPartialEq;
 pub use few::Few;
 pub use lookup::Entry;
 pub use lookup::find;

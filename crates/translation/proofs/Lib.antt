@@ -5,3 +5,4 @@ pub mod Collecting
 pub mod Appending
 pub mod Recording
 pub mod Tabling
+pub mod Answering
