@@ -19,15 +19,15 @@ use translation::translate_bytes;
 const MOST_BYTES: usize = 7808;
 
 /// The listing of the table that the bytes hold.
-pub fn listing(heap: Global, bytes: &[u8]) -> Result<String, AllocError>
+pub fn list_table(heap: Global, bytes: &[u8]) -> Result<String, AllocError>
     ensures { λ r. ⌜ made r (λ s. Lists (now (bytes .entry)) (string-bytes s)) ⌝ }
 {
     let mut code = [0; MOST_BYTES];
-    listing_by(heap, bytes, &mut code)
+    list_by(heap, bytes, &mut code)
 }
 
 /// The same, with a buffer for the translation.
-fn listing_by(heap: Global, bytes: &[u8], code: &mut [u8]) -> Result<String, AllocError>
+fn list_by(heap: Global, bytes: &[u8], code: &mut [u8]) -> Result<String, AllocError>
     requires { ⌜ length (now code) ≡ 7808 ⌝ }
     ensures { λ r. ⌜ made r (λ s. Lists (now (bytes .entry)) (string-bytes s)) ⌝ }
 {

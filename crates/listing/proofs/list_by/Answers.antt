@@ -2,7 +2,7 @@ use Rattle.std.specs.Of.String.{string-bytes}
 use Rattle.std.proofs.shelf.Results.{made-weaker}
 use Rattle.listing.specs.Texts.{Lists}
 use Rattle.listing.proofs.Listed.{listed, told}
-use Rattle.listing.proofs.listing_by.Needs as need
+use Rattle.listing.proofs.list_by.Needs as need
 
 pub returns-in-Ok : need.returns-in-Ok
 returns-in-Ok c =
