@@ -12,3 +12,5 @@ pub mod Frames
 pub mod NextBeat
 pub mod BeatSteps
 pub mod DirectCalls
+pub mod Words
+pub mod Sizes

@@ -13,3 +13,6 @@ pub mod BeatLaws
 pub mod Refused
 pub mod Calls
 pub mod Direct
+pub mod Translation
+pub mod Code
+pub mod Translated

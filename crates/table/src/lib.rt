@@ -20,6 +20,7 @@ mod variables;
 pub use blocks::BlockFault;
 pub use decoding::decode;
 pub use fault::TableFault;
+pub use fault::TableFaultDebug;
 pub use lookup::Entry;
 pub use lookup::find;
 pub use names::NameFault;
