@@ -42,12 +42,12 @@ after-heading t j x y a q e f at s =
 pub begun : (t : List Record) → WellFormed t → Begun t
 begun t w = record {
   block = λ r l j h b.
-    let f = w .blocked .flows j (Block l h) (b .there) refl in
-    let z : block-address t r l + 0 ≡ block-address t r l = omega arith in
-    subst (Opens t) z (after-heading t j (Block l h) (f .0) (block-address t r l) 0 (b .there) (f .1) (ap (found-address t) (b .first)) (λ k. refl));
+      let f = w .blocked .flows j (Block l h) (b .there) refl in
+      let z : block-address t r l + 0 ≡ block-address t r l = omega arith in
+      subst (Opens t) z (after-heading t j (Block l h) (f .0) (block-address t r l) 0 (b .there) (f .1) (ap (found-address t) (b .first)) (λ k. refl));
   entry = λ g j p q b.
-    let f = w .blocked .flows j (Routine g p q) (b .there) refl in
-    after-heading t j (Routine g p q) (f .0) (routine-address t g) q (b .there) (f .1) (ap (found-address t) (b .first)) (λ k. refl);
+      let f = w .blocked .flows j (Routine g p q) (b .there) refl in
+      after-heading t j (Routine g p q) (f .0) (routine-address t g) q (b .there) (f .1) (ap (found-address t) (b .first)) (λ k. refl);
 }
 
 pub lettered : (w : Word) → Lettered w
@@ -64,6 +64,7 @@ lettered w = record { capital = λ e. rw e (low (w .operation)); small = λ e. r
     low (Resume x) = omega arith
     low (Test x y) = omega arith
     low (Throw x) = omega arith
+
     high : (o : Operation) → 97 ≤ letter o + 32
     high (Set x i) = omega arith
     high (Assign x y) = omega arith

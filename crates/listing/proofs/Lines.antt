@@ -16,11 +16,11 @@ pub line-more : (ws : List (List ℕ)) (i : ℕ) (text line text′ : List ℕ) 
 line-more ws i text line text′ l e f g =
     let w = getD ws i [] in
     let here : words-text i (drop i ws) ≡ word-text i w ++ words-text (i + 1) (drop (i + 1) ws) =
-      ap (words-text i) (drop-more ws i [] l) ∙ ap (λ n. word-text i w ++ words-text n (drop (i + 1) ws)) (sym (add-one i)) in
+    ap (words-text i) (drop-more ws i [] l) ∙ ap (λ n. word-text i w ++ words-text n (drop (i + 1) ws)) (sym (add-one i)) in
     ap (λ u. u ++ words-text (i + 1) (drop (i + 1) ws)) (g ∙ ap (λ u. text ++ u) f)
-      ∙ append-assoc text (word-text i w) (words-text (i + 1) (drop (i + 1) ws))
-      ∙ ap (λ u. text ++ u) (sym here)
-      ∙ e
+    ∙ append-assoc text (word-text i w) (words-text (i + 1) (drop (i + 1) ws))
+    ∙ ap (λ u. text ++ u) (sym here)
+    ∙ e
 
 pub line-all : (ws : List (List ℕ)) (i : ℕ) (text : List ℕ) → length ws ≤ i → text ++ words-text i (drop i ws) ≡ words-text 0 ws → text ≡ words-text 0 ws
 line-all ws i text l e = sym (append-nil text) ∙ ap (λ vs. text ++ words-text i vs) (sym (drop-all i ws l)) ∙ e

@@ -28,7 +28,7 @@ put-appends at n bs out out′ e f = record { next = ap (λ k. at + k) e; after 
         let m = length front in
         let head : take at out ≡ front = (λ i. take (a i) (o i)) ∙ take-append-seam front (drop m base) in
         let tail : drop (at + n) out ≡ drop (length (front ++ bs)) base =
-          (λ i. drop (a i + n) (o i)) ∙ drop-append-add front (drop m base) n ∙ drop-drop n m base ∙ ap (λ k. drop k base) (ap (λ k. m + k) e ∙ sym (length-append front bs)) in
+        (λ i. drop (a i + n) (o i)) ∙ drop-append-add front (drop m base) n ∙ drop-drop n m base ∙ ap (λ k. drop k base) (ap (λ k. m + k) e ∙ sym (length-append front bs)) in
         f ∙ (λ i. head i ++ (bs ++ tail i)) ∙ sym (append-assoc front bs (drop (length (front ++ bs)) base))
 
 pub none-appends : (at : ℕ) (out : List ℕ) → Appends at [] out out at

@@ -52,7 +52,7 @@ module _ (t : List Record) (i : ℕ) (c c′ : Context) (x : Record) (at : ℕ) 
       let n = next t i c c′ x (so-far .under) on is in
       let w = words t (c′ .routine) (c′ .handler) x in
       let f : front-code t (i + 1) ≡ front-code t i ++ joined word-bytes w =
-        ap (λ k. front-code t k) (add-one i) ∙ ap (joined word-bytes) (joined-next (line-words t) (lines t) i _ (n .here)) ∙ joined-both word-bytes (joined (line-words t) (take i (lines t))) w in
+      ap (λ k. front-code t k) (add-one i) ∙ ap (joined word-bytes) (joined-next (line-words t) (lines t) i _ (n .here)) ∙ joined-both word-bytes (joined (line-words t) (take i (lines t))) w in
       record {
         under = n .under;
         place = omega (arith, so-far .place, address-more t i c c′ x (so-far .under) on is);

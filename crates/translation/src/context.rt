@@ -17,7 +17,10 @@ impl Context {
     pub fn start() -> Context
         ensures { λ r. ⌜ r ≡ start ⌝ }
     {
-        Context { routine: 0, handler: None }
+        Context {
+            routine: 0,
+            handler: None,
+        }
     }
 
     /// That of the next record; a heading is in the block that it opens.
@@ -25,8 +28,14 @@ impl Context {
         ensures { λ r. ⌜ r ≡ context-at self next ⌝ }
     {
         match next {
-            Record::Routine { identifier, .. } => Context { routine: identifier, handler: None },
-            Record::Block { handler, .. } => Context { routine: self.routine, handler },
+            Record::Routine { identifier, .. } => Context {
+                routine: identifier,
+                handler: None,
+            },
+            Record::Block { handler, .. } => Context {
+                routine: self.routine,
+                handler,
+            },
             Record::Body(_) => self,
         }
     }

@@ -18,12 +18,22 @@ pub fn encode(word: Word) -> [u8; 8]
         }
         Operation::Assign { x, y } | Operation::Test { x, y } => [kind, x, y, 0, 0, 0, 0, 0],
         Operation::Subtract { x, y, z } => [kind, x, y, z, 0, 0, 0, 0],
-        Operation::Ask { x, operation, y, catch } => [kind, x, operation, y, catch, 0, 0, 0],
+        Operation::Ask {
+            x,
+            operation,
+            y,
+            catch,
+        } => [kind, x, operation, y, catch, 0, 0, 0],
         Operation::Save { x, catch: None } => [kind, x, 0, 0, 0, 0, 0, 0],
-        Operation::Save { x, catch: Some(catch) } => [kind, x, 1, catch, 0, 0, 0, 0],
-        Operation::Enter { count, address, arguments } => {
-            enter_bytes(kind, count, address, arguments)
-        }
+        Operation::Save {
+            x,
+            catch: Some(catch),
+        } => [kind, x, 1, catch, 0, 0, 0, 0],
+        Operation::Enter {
+            count,
+            address,
+            arguments,
+        } => { enter_bytes(kind, count, address, arguments) }
         Operation::Jump { address } => {
             let [low, high] = address.to_le_bytes();
             [kind, low, high, 0, 0, 0, 0, 0]
@@ -45,7 +55,11 @@ fn enter_bytes(kind: u8, count: u8, address: u16, arguments: [u8; 4]) -> [u8; 8]
 fn letter(word: Word) -> u8
     ensures { λ r. ⌜ r ≡ cond (word .opens) (letter-of (word .operation)) (letter-of (word .operation) + 32) ⌝ }
 {
-    if word.opens { capital(word.operation) } else { capital(word.operation) + 32 }
+    if word.opens {
+        capital(word.operation)
+    } else {
+        capital(word.operation) + 32
+    }
 }
 
 /// The capital letter of an operation.

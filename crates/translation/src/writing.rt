@@ -63,7 +63,14 @@ fn put_clears(out: &mut [u8], at: usize, parameters: u8, locals: u8) -> usize
 {
     let mut next = at;
     for local in 0..locals {
-        next = put(out, next, small(Operation::Set { x: parameters + local, value: 0 }));
+        next = put(
+            out,
+            next,
+            small(Operation::Set {
+                x: parameters + local,
+                value: 0,
+            }),
+        );
     }
     next
 }
@@ -84,7 +91,11 @@ fn put_record(
     ensures appends { λ r. ⌜ Appends at (joined word-bytes (words-of (records-of (now (table .entry))) (context .routine) (context .handler) next)) (now (out .entry)) (now (out .exit)) r ⌝ }
 {
     match next {
-        Record::Routine { parameters, locals, .. } => put_clears(out, at, parameters, locals),
+        Record::Routine {
+            parameters,
+            locals,
+            ..
+        } => put_clears(out, at, parameters, locals),
         Record::Block { .. } => at,
         Record::Body(i) => put_words(out, at, translate_instruction(table, addresses, context, i)),
     }

@@ -11,4 +11,4 @@ loop-address-again c =
 pub returns : need.returns
 returns c =
     line-all (c .as-chunks .result .0 .now) (c .loop-address .address) (string-bytes (c .loop-address .text)) (c .loop-address-test .left) (c .loop-address .inv)
-      ∙ ap (words-text 0) (c .as-chunks .ensures .front)
+    ∙ ap (words-text 0) (c .as-chunks .ensures .front)

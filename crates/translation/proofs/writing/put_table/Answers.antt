@@ -28,7 +28,7 @@ put-record-at-requires c κs =
       addressed = c .pre .addressed;
       ranged = all-nth InRange xs i x (c .records-next-items .ensures .formed .legible .ranged) at;
       room =
-        record-room t i (c .loop-next .context) (c .at-context .result) x (c .loop-next .at) (c .args .out .now) (c .loop-next .out) (c .loop-next .inv) on (c .at-context .ensures) _ (omega (arith, c .pre .room, c .loop-next .kept .out));
+          record-room t i (c .loop-next .context) (c .at-context .result) x (c .loop-next .at) (c .args .out .now) (c .loop-next .out) (c .loop-next .inv) on (c .at-context .ensures) _ (omega (arith, c .pre .room, c .loop-next .kept .out));
     }
 
 pub loop-next-again : need.loop-next-again
