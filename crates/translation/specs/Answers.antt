@@ -45,3 +45,7 @@ pub record Told (bs out out′ : List ℕ) (i : ℤ) : Type 0 where
   pub answer : Result ℕ TranslationFault
   pub fits : Answers bs out out′ answer
   pub is : i ≡ number answer
+
+-- whatever is told of some bytes and a buffer is the same number, and leaves the same buffer
+abbrev pub One-answer : List ℕ → List ℕ → Type 0
+One-answer bs out = (out₁ out₂ : List ℕ) (i j : ℤ) → Told bs out out₁ i → Told bs out out₂ j → (i ≡ j) × (out₁ ≡ out₂)
