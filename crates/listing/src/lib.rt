@@ -13,10 +13,8 @@ ghost use Rattle.std.specs.Vec.{made};
 ghost use Rattle.listing.specs.Texts.{spaced, word-text, code-text, refusal-text as text-of, Lists};
 use std::alloc::AllocError;
 use std::alloc::Global;
+use translation::MOST_BYTES;
 use translation::translate_bytes;
-
-/// The most bytes that a translation has: 976 words of eight.
-const MOST_BYTES: usize = 7808;
 
 /// The listing of the table that the bytes hold.
 pub fn list_table(heap: Global, bytes: &[u8]) -> Result<String, AllocError>

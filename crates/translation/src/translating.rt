@@ -13,6 +13,9 @@ use super::writing::put_table;
 use table::Table;
 use table::check;
 
+/// The most bytes that a translation has: 976 words of eight.
+pub const MOST_BYTES: usize = 7808;
+
 /// Translates a checked table into the buffer, and gives how many bytes were written. No byte after
 /// them is changed, and none at all where the buffer is too short.
 pub fn translate_table(table: &Table, out: &mut [u8]) -> Result<usize, ShortBuffer>
