@@ -26,6 +26,14 @@ stack-push n slots f h =
     subst (λ k. stack k (set slots n f) ≡ frame-of f ∷ stack n slots) (sym (add-one n))
     (ap (λ g. frame-of g ∷ stack n (set slots n f)) (getD-set-same slots n f blank h) ∙ ap (λ l. frame-of f ∷ l) (stack-set n n slots f (omega arith)))
 
-pub stack-pop : (n : ℕ) (slots : List Frame) → 0 < n → stack n slots ≡ frame-of (getD slots (n - 1) blank) ∷ stack (n - 1) slots
-stack-pop zero slots h = absurd (omega arith)
-stack-pop (suc n) slots h = let e : suc n - 1 ≡ n = omega arith in subst (λ k. stack (suc n) slots ≡ frame-of (getD slots k blank) ∷ stack k slots) (sym e) refl
+-- a place of a list reads the same with any default
+any-default : {X : Type 0} (xs : List X) (i : ℕ) (d e : X) → i < length xs → getD xs i d ≡ getD xs i e
+any-default [] i d e h = absurd (omega arith)
+any-default (x ∷ xs) zero d e h = refl
+any-default (x ∷ xs) (suc i) d e h = any-default xs i d e (omega arith)
+
+pub stack-pop : (n : ℕ) (slots : List Frame) (d : Frame) → 0 < n → n ≤ length slots → stack n slots ≡ frame-of (getD slots (n - 1) d) ∷ stack (n - 1) slots
+stack-pop zero slots d h few = absurd (omega arith)
+stack-pop (suc n) slots d h few =
+    let e : suc n - 1 ≡ n = omega arith in
+    subst (λ k. stack (suc n) slots ≡ frame-of (getD slots k d) ∷ stack k slots) (sym e) (ap (λ f. frame-of f ∷ stack n slots) (any-default slots n blank d (omega arith)))

@@ -1,7 +1,7 @@
-//! The direct stand: it runs a routine from its table. Here are its frames; the stand itself is to come.
+//! The direct stand: it runs a routine from its table. Here are its machine and the moves of that; the
+//! stand itself is to come.
 
-pub mod frame;
-pub mod frames;
-
-pub use frame::Frame;
-pub use frames::Frames;
+mod frame;
+mod frames;
+mod machine;
+mod variables;

@@ -19,22 +19,14 @@ impl Frames {
     }
 
     /// One frame more, or false where 32 stand.
-    pub fn push(
-        &mut self,
-        routine: u8,
-        handler: Option<Handler>,
-        next: u16,
-        variables: &[i32; 16],
-        result: u8,
-    ) -> bool
-        ensures { λ r. ⌜ Pushed (standing (now (self .entry))) (record { routine = routine; handler = handler; next = next; variables = now (variables .entry); result = result }) r (standing (now (self .exit))) ⌝ }
+    pub fn push(&mut self, frame: Frame) -> bool
+        ensures { λ r. ⌜ Pushed (standing (now (self .entry))) (frame-of frame) r (standing (now (self .exit))) ⌝ }
     {
         let at = self.count;
         if at >= MOST_FRAMES {
             return false;
         }
-        self.slots[at]
-            .fill(routine, handler, next, variables, result);
+        self.slots[at] = frame;
         self.count = at + 1;
         true
     }
