@@ -1,10 +1,9 @@
 -- Where blocks begin, how long a translation is, and how wide its words are.
-use mathlib.Core.Path.{_≡_, refl, sym, ap, subst, _∙_}
-use mathlib.Core.Bool.{Bool, true, false, cond}
+use mathlib.Core.Path.{_≡_, refl, ap, subst}
+use mathlib.Core.Bool.{cond}
 use mathlib.Core.List.{List, [], _∷_, _++_}
 use Prim.Native.Nat.{ℕ, zero, suc, _+_, _*_, _≤_}
 use native.Mathlib.Omega.{arith}
-use lib.IntN.{pos}
 use lib.ListN.{length, length-append}
 use Rattle.std.specs.Finite.{nth, All}
 use Rattle.std.specs.Joined.{joined}
@@ -22,7 +21,7 @@ use Rattle.language.specs.declared.record.Record.the-variants.{Routine, Block,
 use Rattle.language.specs.declared.word.Word.{Word}
 use Rattle.language.specs.Bytes.{InRange}
 use Rattle.language.specs.Forms.{is-routine}
-use Rattle.language.specs.Lines.{Line, line, lines, lines-after, Enters, Heads}
+use Rattle.language.specs.Lines.{Line, line, lines, lines-after}
 use Rattle.language.specs.WellFormed.{WellFormed}
 use Rattle.language.specs.Translation.{jumps, size, total, found-address, address, block-address, routine-address, clears, words, line-words, translation}
 use Rattle.language.specs.Code.{letter, word-bytes, code}

@@ -20,10 +20,10 @@ use Rattle.language.specs.declared.operation.Operation.the-variants.{Set}
 use Rattle.language.specs.declared.record.Record.{Record}
 use Rattle.language.specs.declared.record.Record.the-variants.{Routine, Block, Body}
 use Rattle.language.specs.declared.word.Word.{Word}
-use Rattle.language.specs.Lines.{Line, line, lines, Enters, Heads}
+use Rattle.language.specs.Lines.{Line, line, lines}
 use Rattle.language.specs.Translation.{small, size, total, address, clears, instruction-words, words, line-words, translation}
 use Rattle.language.specs.Translated.{Stand, Placed, Opens, Opened}
-use Rattle.language.proofs.Lists.{clash, nth-below}
+use Rattle.language.proofs.Lists.{clash}
 use Rattle.language.proofs.Lines.{line-record, record-line}
 
 stand-after : (u : Word) (o : List Word) (a : ℕ) (ws : List Word) → Stand (nth o) a ws → Stand (nth (u ∷ o)) (suc a) ws

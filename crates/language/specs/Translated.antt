@@ -13,7 +13,7 @@ use Rattle.language.specs.declared.instruction.Instruction.{Instruction}
 use Rattle.language.specs.declared.instruction.Instruction.the-variants.{Request, Call, Return}
 use Rattle.language.specs.declared.operation.Operation.the-variants.{Set, Ask, Save, Enter, Resume, Throw}
 use Rattle.language.specs.declared.record.Record.{Record}
-use Rattle.language.specs.declared.record.Record.the-variants.{Routine, Block, Body}
+use Rattle.language.specs.declared.record.Record.the-variants.{Routine, Body}
 use Rattle.language.specs.declared.word.Word.{Word}
 use Rattle.language.specs.Rows.{byte}
 use Rattle.language.specs.Lines.{line, lines, Enters, Heads}

@@ -1,14 +1,12 @@
 -- From the parts of the translation to its answer.
-use mathlib.Core.Path.{_≡_, refl, sym, ap, subst, _∙_}
+use mathlib.Core.Path.{_≡_, sym, ap}
 use mathlib.Core.List.{List}
 use Prim.Native.Nat.{ℕ, _*_, _<_, _≤_}
 use native.Mathlib.Omega.{arith}
 use lib.ListN.{length}
-use Rattle.std.specs.declared.result.Result.{Result}
 use Rattle.std.specs.declared.result.Result.the-variants.{Ok, Err}
 use Rattle.language.specs.declared.record.Record.{Record}
 use Rattle.language.specs.Code.{code}
-use Rattle.language.specs.Translation.{translation}
 use Rattle.language.specs.WellFormed.{WellFormed}
 use Rattle.language.proofs.Near.{refused-near}
 use Rattle.language.proofs.Sizes.{held}

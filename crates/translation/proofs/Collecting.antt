@@ -1,15 +1,14 @@
 -- The addresses of a table's records, collected one by one.
-use mathlib.Core.Path.{_≡_, refl, sym, ap, _∙_}
+use mathlib.Core.Path.{_≡_, sym, ap, _∙_}
 use mathlib.Core.List.{List, [], _∷_}
 use mathlib.Core.Logic.{_⊎_, inl, inr, _≢_}
 use Prim.Native.Nat.{ℕ, zero, suc, _+_, _<_, _≤_}
 use native.Mathlib.Numerals.{add-one}
 use native.Mathlib.Omega.{arith}
-use lib.ListN.{length, getD, take, drop, set, length-set, length-replicate, replicate}
+use lib.ListN.{length, getD, take, set, length-set}
 use lib.Seq.{getD-set-same, getD-set-other, take-all}
 use Rattle.std.specs.Finite.{nth}
 use Rattle.std.proofs.shelf.Tests.{cases-lt}
-use Rattle.std.specs.declared.option.Option.{Option}
 use Rattle.std.specs.declared.option.Option.the-variants.{Some, None}
 use Rattle.language.specs.declared.record.Record.{Record}
 use Rattle.language.specs.Lines.{Line, line, lines}
@@ -22,7 +21,7 @@ use Rattle.translation.specs.declared.addresses.Addresses.{Addresses}
 use Rattle.translation.specs.declared.context.Context.{Context}
 use Rattle.translation.specs.Addressing.{Addressed}
 use Rattle.translation.specs.Contexts.{start, context-at}
-use Rattle.translation.proofs.Passing.{Under, under-start, Next, next}
+use Rattle.translation.proofs.Passing.{Under, under-start, next}
 
 -- those of the first i records are known
 pub record Collected (t : List Record) (i : ℕ) (c : Context) (os : List ℕ) (w : ℕ) : Type 0 where

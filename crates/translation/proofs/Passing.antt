@@ -1,18 +1,15 @@
 -- Passing over the records of a table, with the context of each.
-use mathlib.Core.Path.{_≡_, refl, sym, ap, _∙_}
+use mathlib.Core.Path.{_≡_, sym, ap, _∙_}
 use mathlib.Core.List.{List, [], _∷_}
-use Prim.Native.Nat.{ℕ, zero, suc, _+_, _<_, _≤_}
+use Prim.Native.Nat.{ℕ, zero, suc, _+_}
 use native.Mathlib.Numerals.{add-one}
 use native.Mathlib.Omega.{arith}
-use lib.ListN.{length, getD, take, drop, set}
-use lib.Seq.{drop-drop}
+use lib.ListN.{drop}
 use Rattle.std.specs.Finite.{nth}
-use Rattle.std.specs.declared.option.Option.{Option}
 use Rattle.std.specs.declared.option.Option.the-variants.{Some, None}
-use Rattle.language.specs.declared.handler.Handler.{Handler}
 use Rattle.language.specs.declared.record.Record.{Record}
 use Rattle.language.specs.declared.record.Record.the-variants.{Routine, Block, Body}
-use Rattle.language.specs.Lines.{Line, line, lines, lines-after}
+use Rattle.language.specs.Lines.{line, lines, lines-after}
 use Rattle.language.proofs.Lists.{clash}
 use Rattle.translation.specs.declared.context.Context.{Context}
 use Rattle.translation.specs.Contexts.{start, context-at}

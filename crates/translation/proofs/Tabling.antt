@@ -1,16 +1,16 @@
 -- The words of a table, written record by record.
-use mathlib.Core.Path.{_≡_, refl, sym, ap, subst, _∙_}
+use mathlib.Core.Path.{_≡_, refl, sym, ap, _∙_}
 use mathlib.Core.List.{List, [], _∷_, _++_, append-assoc, append-nil}
 use Prim.Native.Nat.{ℕ, zero, suc, _+_, _*_, _≤_}
 use native.Mathlib.Numerals.{add-one}
 use native.Mathlib.Omega.{arith}
-use lib.ListN.{length, take, drop}
+use lib.ListN.{length, take}
 use lib.Seq.{take-all}
 use Rattle.std.specs.Finite.{nth}
 use Rattle.std.specs.Joined.{joined}
 use Rattle.std.specs.declared.option.Option.the-variants.{Some, None}
 use Rattle.language.specs.declared.record.Record.{Record}
-use Rattle.language.specs.Lines.{line, lines}
+use Rattle.language.specs.Lines.{lines}
 use Rattle.language.specs.Code.{word-bytes, code}
 use Rattle.language.specs.Translation.{size, address, words, line-words, translation}
 use Rattle.language.proofs.Lists.{clash}

@@ -7,7 +7,6 @@ ghost use Rattle.std.specs.Joined.{joined};
 ghost use Rattle.language.specs.Code.{word-bytes, code};
 ghost use Rattle.language.specs.Translation.{clears, size, words as words-of, translation};
 ghost use Rattle.language.specs.Bytes.{InRange};
-ghost use Rattle.language.specs.WellFormed.{WellFormed};
 ghost use Rattle.table.specs.Checked.{records-of};
 ghost use Rattle.translation.specs.Addressing.{Addressed};
 ghost use Rattle.translation.specs.Buffers.{Appends, over};

@@ -1,4 +1,4 @@
-use mathlib.Core.Path.{_≡_, ap, _∙_}
+use mathlib.Core.Path.{ap, _∙_}
 use Rattle.std.specs.Of.String.{string-bytes}
 use Rattle.listing.specs.Texts.{words-text}
 use Rattle.listing.proofs.Lines.{line-more, line-all}
