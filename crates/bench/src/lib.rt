@@ -1,5 +1,6 @@
 //! What a bench is: its state, the requests it takes, the rules by which it answers them, and the
 //! trait that every bench implements. Code above this crate knows a bench by these rules alone.
+#![tactic(auto)]
 
 pub mod action;
 pub mod angle;

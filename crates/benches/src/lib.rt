@@ -1,5 +1,6 @@
 //! Three benches that keep the request rules: one that keeps an entry for each site, one that keeps
 //! a log of placements, and one that reads the angles of another bench from the other side.
+#![tactic(auto)]
 
 mod entries;
 mod head;

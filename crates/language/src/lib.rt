@@ -1,6 +1,7 @@
 //! The language of routine tables: its records and instructions, when a table is well formed, and
 //! why one is refused. What a reader has to believe stands in specs/; the theorems about it are
 //! named by the contracts of `theorems`. There is no other code here.
+#![tactic(auto)]
 
 pub mod agreement;
 pub mod beats;

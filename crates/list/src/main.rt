@@ -1,4 +1,5 @@
 //! Prints the listing of the table that standard input holds.
+#![tactic(auto)]
 
 use listing::list_table;
 use std::io::Read;

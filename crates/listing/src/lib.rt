@@ -1,5 +1,6 @@
 //! The listing of a table: one line for each word of its translation, or one that tells why there is
 //! none.
+#![tactic(auto)]
 
 ghost use Rattle.std.specs.Prelude.{◌≡◌, ◌++◌, length, IfOk, string_bytes, codes, decimal};
 ghost use Rattle.std.proofs.Math.Utf8.{encode};

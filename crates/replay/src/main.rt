@@ -1,4 +1,5 @@
 //! Performs an event script from standard input, and prints one line for each event.
+#![tactic(auto)]
 
 use anyhow::anyhow;
 use script::{Expected, Line, Position, pair_text};

@@ -14,6 +14,7 @@
 //! ends the section. Numbers are signed, of 32 bits, in base ten. The nozzle is a feeder, or `-`; a
 //! site that is taken is written with its feeder and angle, and `none` stands where no site is.
 //! Where two benches answer differently, `DIFFER first | second` is printed.
+#![tactic(auto)]
 
 pub mod answer;
 pub mod expected;

@@ -1,5 +1,6 @@
 //! The script format on examples: lines that read and lines that do not, their order, and the text
 //! of answers.
+#![tactic(auto)]
 
 #[cfg(test)]
 mod order;

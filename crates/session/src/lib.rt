@@ -1,5 +1,6 @@
 //! Events given to two benches side by side, and a section of an event script performed so: what each
 //! bench answers, event by event.
+#![tactic(auto)]
 
 mod answering;
 pub mod event;

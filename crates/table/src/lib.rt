@@ -2,6 +2,7 @@
 //! well-formed table, and refuses all others by the layer, the cause and the place of what is wrong:
 //! layer 1 reads records, layer 2 sees that they make blocks, layer 3 that their names fit together.
 //! A `Table` is never anything but well formed, and lies in memory of a fixed size.
+#![tactic(auto)]
 
 mod blocks;
 mod decoding;

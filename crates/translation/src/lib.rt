@@ -1,4 +1,5 @@
 //! Checked tables translated to continuation form, in bytes. `translate` is what a program in C calls.
+#![tactic(auto)]
 
 mod addresses;
 mod context;
