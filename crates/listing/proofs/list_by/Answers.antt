@@ -7,9 +7,9 @@ use Rattle.listing.proofs.list_by.Goals as goal
 pub returns-in-Ok : goal.returns-in-Ok
 returns-in-Ok c =
     let bs = c.args.bytes.now in
-    IfOk-weaker c.code_text_of.result _ (λ s. Lists bs (string_bytes s)) (λ s e. listed bs c.args.code.now c.translate-bytes.new.out c.in-Ok.written (string_bytes s) c.in-Ok.ensures e) c.code_text_of.ensures
+    IfOk-weaker c.code_text.result _ (λ s. Lists bs (string_bytes s)) (λ s e. listed bs c.args.code.now c.translate_bytes.new.out c.in-Ok.written (string_bytes s) c.in-Ok.ensures e) c.code_text.ensures
 
 pub returns-in-Err : goal.returns-in-Err
 returns-in-Err c =
     let bs = c.args.bytes.now in
-    IfOk-weaker c.refusal_text_of.result _ (λ s. Lists bs (string_bytes s)) (λ s e. told bs c.args.code.now c.translate-bytes.new.out c.in-Err.fault c.layer.result c.cause.result c.place.result (string_bytes s) c.requires c.in-Err.ensures c.layer.ensures c.cause.ensures c.place.ensures e) c.refusal_text_of.ensures
+    IfOk-weaker c.refusal_text.result _ (λ s. Lists bs (string_bytes s)) (λ s e. told bs c.args.code.now c.translate_bytes.new.out c.in-Err.fault c.layer.result c.cause.result c.place.result (string_bytes s) c.requires c.in-Err.ensures c.layer.ensures c.cause.ensures c.place.ensures e) c.refusal_text.ensures

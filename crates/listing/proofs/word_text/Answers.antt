@@ -8,4 +8,4 @@ pub returns : goal.returns
 returns c =
     let a = c.args.address in
     let row = c.args.word in
-    IfOk-weaker c.line-text.result _ (λ s. string_bytes s ≡ word_text_of a row) (λ s e. word_line a row c.from-letter.result c.as-str.result.now (string_bytes s) c.from-letter.ensures (c.as-str.ensures.value ∙ c.in-ok-fields.ensures) e) c.line-text.ensures
+    IfOk-weaker c.line_text.result _ (λ s. string_bytes s ≡ word_text_of a row) (λ s e. word_line a row c.from-letter.result c.as_str.result.now (string_bytes s) c.from-letter.ensures (c.as_str.ensures.value ∙ c.in_ok-fields.ensures) e) c.line_text.ensures

@@ -4,7 +4,7 @@ use Rattle.script.proofs.state.counts_text.Goals as goal
 
 pub loop-count-preserved : goal.loop-count-preserved
 loop-count-preserved c =
-    counts_more _ _ _ _ _ c.loop-count-test.true c.loop-count.invariant (c.as-str.ensures.value ∙ c.in-ok-word.ensures.ok) c.in-ok-push-str.ensures.bytes
+    counts_more _ _ _ _ _ c.loop-count-test.true c.loop-count.invariant (c.as_str.ensures.value ∙ c.in_ok-word.ensures.ok) c.in_ok-push_str.ensures.bytes
 
 pub returns : goal.returns
 returns c = counts_all _ _ _ c.loop-count-test.false c.loop-count.invariant

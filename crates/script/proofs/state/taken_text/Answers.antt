@@ -4,7 +4,7 @@ use Rattle.script.proofs.state.taken_text.Goals as goal
 
 pub loop-site-preserved : goal.loop-site-preserved
 loop-site-preserved c =
-    sites_more _ _ _ _ _ _ c.loop-site-test.true c.index-sites-site.is c.loop-site.invariant (c.as-str.ensures.value ∙ c.in-ok-word.ensures) c.in-ok-push-str.ensures.bytes
+    sites_more _ _ _ _ _ _ c.loop-site-test.true c.index-sites-site.is c.loop-site.invariant (c.as_str.ensures.value ∙ c.in_ok-word.ensures) c.in_ok-push_str.ensures.bytes
 
 pub returns : goal.returns
 returns c = sites_all _ _ _ c.loop-site-test.false c.loop-site.invariant

@@ -18,7 +18,7 @@ loop-place-preserved c =
     let t = c.args.records.now in
     let p = c.loop-place.place in
     let d = Routine 0 0 0 in
-    let next = more t p _ _ _ c.loop-place.invariant (get_or t p d) (slice_get-get_or t p d c.loop-place-test.true) _ _ _ c.in-default.ensures c.after-flow.ensures in
+    let next = more t p _ _ _ c.loop-place.invariant (get_or t p d) (slice_get-get_or t p d c.loop-place-test.true) _ _ _ c.in_default.ensures c.after-flow.ensures in
     elim c.match-at.branch [
       | in-Routine w ↦ next _ w.in-Routine.is w.routines-is w.blocks-is
       | in-Block w ↦ next _ w.in-Block.is w.routines-is w.blocks-is
@@ -34,5 +34,5 @@ ended c =
 pub returns-in-Open : goal.returns-in-Open
 returns-in-Open c = left_open c.args.records.now _ _ _ (ended (goal.at.returns-in-Open c).After-loop-place) c.in-Open.is
 
-pub returns-in-default-flow : goal.returns-in-default-flow
-returns-in-default-flow c = done c.args.records.now _ _ _ (ended (goal.at.returns-in-default-flow c).After-loop-place) c.in-default-flow.not-Open
+pub returns-in_default-flow : goal.returns-in_default-flow
+returns-in_default-flow c = done c.args.records.now _ _ _ (ended (goal.at.returns-in_default-flow c).After-loop-place) c.in_default-flow.not-Open

@@ -5,22 +5,22 @@ use Rattle.table.specs.Rows.{Missed}
 use Rattle.table.proofs.RecordLayer.{Sofar, more, first, done, no_table, counted}
 use Rattle.table.proofs.records.check_records.Goals as goal
 
-pub returns-then-not-is-whole : goal.returns-then-not-is-whole
-returns-then-not-is-whole c = no_table c.args.bytes.now (λ w. false≢true (sym c.if-not-is-whole.true ∙ c.is-whole.ensures.1 w))
+pub returns-then-not-is_whole : goal.returns-then-not-is_whole
+returns-then-not-is_whole c = no_table c.args.bytes.now (λ w. false≢true (sym c.if-not-is_whole.true ∙ c.is_whole.ensures.1 w))
 
 pub push-requires : goal.push-requires
 push-requires c =
     let bs = c.args.bytes.now in
-    let whole = c.is-whole.ensures.0 c.if-not-is-whole.false in
+    let whole = c.is_whole.ensures.0 c.if-not-is_whole.false in
     let few = whole.1 in
     let on = c.loop-place-test.true in
-    let long = c.as-chunks.ensures.front-len in
-    let count = counted c.as-chunks.result.0.now (held c.loop-place.records) c.loop-place.place (omega arith) c.loop-place.invariant in
+    let long = c.as_chunks.ensures.front-len in
+    let count = counted c.as_chunks.result.0.now (held c.loop-place.records) c.loop-place.place (omega arith) c.loop-place.invariant in
     (lit< tt, omega arith)
 
 pub loop-place-preserved : goal.loop-place-preserved
 loop-place-preserved c =
-    let rs = c.as-chunks.result.0.now in
+    let rs = c.as_chunks.result.0.now in
     subst (λ l. Sofar rs l (c.loop-place.place + 1)) (sym c.push.ensures)
     (more rs (held c.loop-place.records) c.loop-place.place c.in-Ok.made c.loop-place-test.true c.in-Ok.ensures.decodes c.loop-place.invariant)
 
@@ -29,8 +29,8 @@ returns-in-Err c =
     let bs = c.args.bytes.now in
     let p = c.loop-place.place in
     let t = held c.loop-place.records in
-    let same = c.as-chunks.ensures.front in
-    first bs (c.is-whole.ensures.0 c.if-not-is-whole.false) t p (subst (λ rs. Sofar rs t p) same c.loop-place.invariant) c.in-Err.cause
+    let same = c.as_chunks.ensures.front in
+    first bs (c.is_whole.ensures.0 c.if-not-is_whole.false) t p (subst (λ rs. Sofar rs t p) same c.loop-place.invariant) c.in-Err.cause
     (subst (λ (rs : List (List ℕ)). p < length rs) same c.loop-place-test.true)
     (subst (λ rs. Missed (get_or rs p []) c.in-Err.cause) same c.in-Err.ensures.decodes)
 
@@ -39,5 +39,5 @@ returns c =
     let bs = c.args.bytes.now in
     let p = c.loop-place.place in
     let t = held c.loop-place.records in
-    let same = c.as-chunks.ensures.front in
-    done bs (c.is-whole.ensures.0 c.if-not-is-whole.false) t p (subst (λ rs. Sofar rs t p) same c.loop-place.invariant) (subst (λ (rs : List (List ℕ)). length rs ≤ p) same c.loop-place-test.false)
+    let same = c.as_chunks.ensures.front in
+    done bs (c.is_whole.ensures.0 c.if-not-is_whole.false) t p (subst (λ rs. Sofar rs t p) same c.loop-place.invariant) (subst (λ (rs : List (List ℕ)). length rs ≤ p) same c.loop-place-test.false)

@@ -7,8 +7,8 @@ use Rattle.translation.proofs.addresses.find_addresses.Goals as goal
 pub loop-place-init : goal.loop-place-init
 loop-place-init c = none_yet c.args.records.now c.start-context.result _ 0 c.start-context.ensures refl refl
 
-pub overflow-add-words : goal.overflow-add-words
-overflow-add-words c =
+pub overflow_add-words : goal.overflow_add-words
+overflow_add-words c =
     let t = c.args.records.now in
     let i = c.loop-place.place in
     let x = get_or t i (Routine 0 0 0) in

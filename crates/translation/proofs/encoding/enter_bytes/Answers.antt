@@ -6,4 +6,4 @@ pub returns : goal.returns
 returns c =
     let four : length c.args.arguments ≡ 4 = search rules in
     let fits : c.args.address < 65536 = search rules in
-    entered c.args.kind c.args.count c.args.address c.to-le-bytes.result c.args.arguments four fits c.to-le-bytes.ensures
+    entered c.args.kind c.args.count c.args.address c.to_le_bytes.result c.args.arguments four fits c.to_le_bytes.ensures

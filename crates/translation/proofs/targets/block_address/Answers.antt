@@ -3,8 +3,8 @@ use Rattle.table.specs.Checked.{records_of}
 use Rattle.translation.proofs.Finding.{block_below, block_found}
 use Rattle.translation.proofs.targets.block_address.Goals as goal
 
-pub offset-bounds-addresses-place : goal.offset-bounds-addresses-place
-offset-bounds-addresses-place c =
+pub offset_bounds-addresses-place : goal.offset_bounds-addresses-place
+offset_bounds-addresses-place c =
     let below = block_below (records_of c.args.table.now) c.args.routine c.args.label c.in-Some.place c.in-Some.ensures in
     let low : c.in-Some.place < 256 = omega (arith, c.requires.few) in
     search rules

@@ -3,8 +3,8 @@ use Rattle.table.specs.Checked.{records_of}
 use Rattle.translation.proofs.Finding.{routine_below, routine_found}
 use Rattle.translation.proofs.targets.routine_address.Goals as goal
 
-pub offset-bounds-addresses-place : goal.offset-bounds-addresses-place
-offset-bounds-addresses-place c =
+pub offset_bounds-addresses-place : goal.offset_bounds-addresses-place
+offset_bounds-addresses-place c =
     let below = routine_below (records_of c.args.table.now) c.args.identifier c.in-Some.place c.in-Some.ensures in
     let low : c.in-Some.place < 256 = omega (arith, c.requires.few) in
     search rules

@@ -12,5 +12,5 @@ returns c =
     let wide : length bs ≡ 8 = ap length (sym c.encode-bytes.ensures) ∙ eight in
     let k : a + (a + 8 - a) ≡ a + 8 = omega arith in
     let rest = drop-drop (a + 8 - a) a xs ∙ ap (λ v. drop v xs) k in
-    let same = c.copy-from-slice.ensures.after ∙ c.encode-bytes.ensures in
+    let same = c.copy_from_slice.ensures.after ∙ c.encode-bytes.ensures in
     record { wide = wide; appends = put_appends a 8 bs xs _ (sym wide) (λ i. take a xs ++ (same i ++ rest i)) }

@@ -5,19 +5,19 @@ use Rattle.table.specs.Checked.{records_of}
 use Rattle.translation.proofs.Recording.{routine_appends, block_appends, body_appends, body_room}
 use Rattle.translation.proofs.writing.put_record.Goals as goal
 
-pub put-clears-requires : goal.put-clears-requires
-put-clears-requires c =
+pub put_clears-requires : goal.put_clears-requires
+put_clears-requires c =
     let f = subst InRange c.in-Routine.is c.requires.ranged in
     let s = ap (size c.args.context.handler) c.in-Routine.is in
     record { few = f.1; room = omega (arith, c.requires.room) }
 
-pub put-words-requires : goal.put-words-requires
-put-words-requires c =
-    body_room (records_of c.args.table.now) c.args.context.routine c.args.context.handler c.args.next c.in-Body.i _ c.args.at _ c.in-Body.is c.translate-instruction.ensures c.requires.room
+pub put_words-requires : goal.put_words-requires
+put_words-requires c =
+    body_room (records_of c.args.table.now) c.args.context.routine c.args.context.handler c.args.next c.in-Body.i _ c.args.at _ c.in-Body.is c.translate_instruction.ensures c.requires.room
 
 pub returns-in-Routine : goal.returns-in-Routine
 returns-in-Routine c =
-    let r = routine_appends (records_of c.args.table.now) c.args.context.routine c.args.context.handler c.args.next c.args.at c.args.out.now _ _ c.in-Routine.identifier c.in-Routine.parameters c.in-Routine.locals c.in-Routine.is c.put-clears.ensures.next c.put-clears.ensures.appends in
+    let r = routine_appends (records_of c.args.table.now) c.args.context.routine c.args.context.handler c.args.next c.args.at c.args.out.now _ _ c.in-Routine.identifier c.in-Routine.parameters c.in-Routine.locals c.in-Routine.is c.put_clears.ensures.next c.put_clears.ensures.appends in
     record { place = r.place; appends = r.appends }
 
 pub returns-in-Block : goal.returns-in-Block
@@ -27,5 +27,5 @@ returns-in-Block c =
 
 pub returns-in-Body : goal.returns-in-Body
 returns-in-Body c =
-    let r = body_appends (records_of c.args.table.now) c.args.context.routine c.args.context.handler c.args.next c.args.at c.args.out.now _ _ c.in-Body.i _ c.in-Body.is c.translate-instruction.ensures c.put-words.ensures.next c.put-words.ensures.appends in
+    let r = body_appends (records_of c.args.table.now) c.args.context.routine c.args.context.handler c.args.next c.args.at c.args.out.now _ _ c.in-Body.i _ c.in-Body.is c.translate_instruction.ensures c.put_words.ensures.next c.put_words.ensures.appends in
     record { place = r.place; appends = r.appends }

@@ -12,8 +12,8 @@ use Rattle.translation.proofs.writing.put_table.Goals as goal
 pub loop-next-init : goal.loop-next-init
 loop-next-init c = tabled_start (records_of c.args.table.now) c.start-context.result c.args.out.now c.start-context.ensures
 
-pub put-record-at-requires : goal.put-record-at-requires
-put-record-at-requires c =
+pub put_record-at-requires : goal.put_record-at-requires
+put_record-at-requires c =
     let t = records_of c.args.table.now in
     let xs = c.records-next-items.result.now in
     let i = c.loop-next.next-index in
@@ -34,7 +34,7 @@ loop-next-preserved c =
     let i = c.loop-next.next-index in
     let x = get_or xs i (Routine 0 0 0) in
     let on = ap (λ (ys : List Record). slice_get ys i) (sym c.records-next-items.ensures.same) ∙ slice_get-get_or xs i (Routine 0 0 0) c.loop-next-test.true in
-    tabled_more t i c.loop-next.context c.at-context.result x c.loop-next.at c.args.out.now c.loop-next.out c.loop-next.invariant on c.at-context.ensures c.put-record-at.new.out c.put-record-at.result c.put-record-at.ensures.place c.put-record-at.ensures.appends
+    tabled_more t i c.loop-next.context c.at-context.result x c.loop-next.at c.args.out.now c.loop-next.out c.loop-next.invariant on c.at-context.ensures c.put_record-at.new.out c.put_record-at.result c.put_record-at.ensures.place c.put_record-at.ensures.appends
 
 pub returns : goal.returns
 returns c =

@@ -11,7 +11,7 @@ pub returns-then-count-lt0 : goal.returns-then-count-lt0
 returns-then-count-lt0 c =
     let within : c.loop-i.i < feeder_count = search rules in
     let bad : Outside (most_in_feeder + 1) (get_or c.args.counts c.loop-i.i (pos 0)) = search rules in
-    subst (SetsUp c.args.counts _) (sym c.with-counts.ensures) (refused c.loop-i.i within bad)
+    subst (SetsUp c.args.counts _) (sym c.with_counts.ensures) (refused c.loop-i.i within bad)
 
 pub loop-i-preserved : goal.loop-i-preserved
 loop-i-preserved c =
@@ -33,4 +33,4 @@ pub returns : goal.returns
 returns c =
     let long : length c.args.counts ≡ feeder_count = search rules in
     let all = all_counted c.args.counts c.loop-i.parts (c.loop-i.invariant.0 ∙ sym long) (λ k h. c.loop-i.invariant.1 k (omega arith)) in
-    subst (SetsUp c.args.counts _) (sym c.with-counts-2.ensures) (taken_over c.loop-i.parts all c.loop-i.invariant.2)
+    subst (SetsUp c.args.counts _) (sym c.with_counts-2.ensures) (taken_over c.loop-i.parts all c.loop-i.invariant.2)

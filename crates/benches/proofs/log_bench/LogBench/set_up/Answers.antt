@@ -5,8 +5,8 @@ use Rattle.benches.specs.Heads.{over}
 use Rattle.benches.proofs.SetUp.{set_up_valid}
 use Rattle.benches.proofs.log_bench.LogBench.set_up.Goals as goal
 
-pub invariant-of-result : goal.invariant-of-result
-invariant-of-result c =
+pub invariant_of-result : goal.invariant_of-result
+invariant_of-result c =
     let eight : length c.args.counts ≡ feeder_count = search rules in
-    let few = (set_up_valid c.args.counts _ _ eight c.set_up_answer_of.ensures).few in
-    (subst (λ spots. parts (over c.set_up_answer_of.result.0 spots) ≤ most_parts) (sym c.new.ensures) few, tt)
+    let few = (set_up_valid c.args.counts _ _ eight c.set_up-answer.ensures).few in
+    record { few = subst (λ spots. parts (over c.set_up-answer.result.0 spots) ≤ most_parts) (sym c.new.ensures) few }

@@ -8,8 +8,8 @@ use Rattle.direct.proofs.machine.Machine.unwind.Goals as goal
 pub returns-in-Some : goal.returns-in-Some
 returns-in-Some c = by_own (state_of c.args.self.now) c.args.value c.in-Some.handler _ (search rules) (search rules)
 
-pub returns-in-default-catch : goal.returns-in-default-catch
-returns-in-default-catch c = by_nobody (state_of c.args.self.now) c.args.value _ (search rules) (search rules) (search rules)
+pub returns-in_default-catch : goal.returns-in_default-catch
+returns-in_default-catch c = by_nobody (state_of c.args.self.now) c.args.value _ (search rules) (search rules) (search rules)
 
 pub returns : goal.returns
 returns c =

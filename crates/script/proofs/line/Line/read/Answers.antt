@@ -3,17 +3,17 @@ use Rattle.script.proofs.Blame.{stopped, told}
 use Rattle.script.proofs.Readings.{reads_empty, reads_comment, reads_asks, unread, unread_word, unread_form, one_told}
 use Rattle.script.proofs.line.Line.read.Goals as goal
 
-pub returns-in-default : goal.returns-in-default
-returns-in-default c = record { reads = reads_empty _ c.in-default.ensures; blames = tt; once = one_told _; alone = alone _ }
+pub returns-in_default : goal.returns-in_default
+returns-in_default c = record { reads = reads_empty _ c.in_default.ensures; blames = tt; once = one_told _; alone = alone _ }
 
 pub returns-then-word-eq35 : goal.returns-then-word-eq35
 returns-then-word-eq35 c =
     let first = c.in-Some.ensures in
     record { reads = reads_comment _ _ _ first.0 first.1 c.if-word-eq35.true; blames = tt; once = one_told _; alone = alone _ }
 
-pub returns-in-err-form : goal.returns-in-err-form
-returns-in-err-form c =
-    let blamed = unread_form _ _ _ _ _ c.in-Some.ensures.0 c.in-Some-named.ensures c.in-err-form.ensures in
+pub returns-in_err-form : goal.returns-in_err-form
+returns-in_err-form c =
+    let blamed = unread_form _ _ _ _ _ c.in-Some.ensures.0 c.in-Some-named.ensures c.in_err-form.ensures in
     record {
       reads = stopped _ _ _ _ c.from-residual.ensures.1 (unread _ _ blamed);
       blames = told _ _ _ c.from-residual.ensures.1 blamed;
@@ -21,9 +21,9 @@ returns-in-err-form c =
       alone = alone _;
     }
 
-pub returns-in-ok-form : goal.returns-in-ok-form
-returns-in-ok-form c =
-    record { reads = reads_asks _ _ _ _ _ c.in-Some.ensures.0 c.in-Some-named.ensures c.in-ok-form.ensures; blames = tt; once = one_told _; alone = alone _ }
+pub returns-in_ok-form : goal.returns-in_ok-form
+returns-in_ok-form c =
+    record { reads = reads_asks _ _ _ _ _ c.in-Some.ensures.0 c.in-Some-named.ensures c.in_ok-form.ensures; blames = tt; once = one_told _; alone = alone _ }
 
 pub returns-in-None : goal.returns-in-None
 returns-in-None c =

@@ -14,13 +14,13 @@ alike : (x : Section) (r : Result (Vec Exchange Global) AllocError) → IfOk r (
 alike x r = made_both r _ _ _ (λ v. same_performance x (first_of (vec_items v)) (second_of (vec_items v)))
 
 pub returns-in-Site-Site : goal.returns-in-Site-Site
-returns-in-Site-Site c = let h = c.perform-on.ensures in record { first = h.first; second = h.second; alike = alike c.args.self.now _ h.first h.second }
+returns-in-Site-Site c = let h = c.perform_on.ensures in record { first = h.first; second = h.second; alike = alike c.args.self.now _ h.first h.second }
 
 pub returns-in-Site-Log : goal.returns-in-Site-Log
-returns-in-Site-Log c = let h = c.perform-on-in-Site-Log.ensures in record { first = h.first; second = h.second; alike = alike c.args.self.now _ h.first h.second }
+returns-in-Site-Log c = let h = c.perform_on-in-Site-Log.ensures in record { first = h.first; second = h.second; alike = alike c.args.self.now _ h.first h.second }
 
 pub returns-in-Log-Site : goal.returns-in-Log-Site
-returns-in-Log-Site c = let h = c.perform-on-in-Log-Site.ensures in record { first = h.first; second = h.second; alike = alike c.args.self.now _ h.first h.second }
+returns-in-Log-Site c = let h = c.perform_on-in-Log-Site.ensures in record { first = h.first; second = h.second; alike = alike c.args.self.now _ h.first h.second }
 
 pub returns-in-Log-Log : goal.returns-in-Log-Log
-returns-in-Log-Log c = let h = c.perform-on-in-Log-Log.ensures in record { first = h.first; second = h.second; alike = alike c.args.self.now _ h.first h.second }
+returns-in-Log-Log c = let h = c.perform_on-in-Log-Log.ensures in record { first = h.first; second = h.second; alike = alike c.args.self.now _ h.first h.second }

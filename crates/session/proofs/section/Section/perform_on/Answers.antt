@@ -7,22 +7,22 @@ use Rattle.session.specs.Plays.{first_of, second_of}
 use Rattle.session.proofs.Performing.{plain_performs, turned_performs}
 use Rattle.session.proofs.section.Section.perform_on.Goals as goal
 
-pub returns-in-default : goal.returns-in-default
-returns-in-default g c =
+pub returns-in_default : goal.returns-in_default
+returns-in_default g c =
     let x = c.args.self.now in
-    let before = vec_items c.in-ok-vec.field-0 in
+    let before = vec_items c.in_ok-vec.field-0 in
     let unturned : x.turn ≡ None = search rules in
     let first : first_of before ≡ set_up_answer_of c.args.first.1 ∷ [] = search rules in
     let second : second_of before ≡ set_up_answer_of c.args.second.1 ∷ [] = search rules in
     record {
-      first = IfOk-weaker _ _ _ (λ v. plain_performs x _ _ (first_of before) (first_of (vec_items v)) unturned c.requires.first first) c.go-on.ensures.first;
-      second = IfOk-weaker _ _ _ (λ v. plain_performs x _ _ (second_of before) (second_of (vec_items v)) unturned c.requires.second second) c.go-on.ensures.second;
+      first = IfOk-weaker _ _ _ (λ v. plain_performs x _ _ (first_of before) (first_of (vec_items v)) unturned c.requires.first first) c.go_on.ensures.first;
+      second = IfOk-weaker _ _ _ (λ v. plain_performs x _ _ (second_of before) (second_of (vec_items v)) unturned c.requires.second second) c.go_on.ensures.second;
     }
 
 pub returns : goal.returns
 returns g c =
     let x = c.args.self.now in
-    let before = vec_items c.in-ok-vec-2.field-0 in
+    let before = vec_items c.in_ok-vec-2.field-0 in
     let by : x.turn ≡ Some c.in-Some.shift = search rules in
     let first : first_of before ≡ set_up_answer_of c.args.first.1 ∷ turn_answer_of c.new-first.result.1 ∷ [] = search rules in
     let second : second_of before ≡ set_up_answer_of c.args.second.1 ∷ turn_answer_of c.new-second.result.1 ∷ [] = search rules in
@@ -34,6 +34,6 @@ returns g c =
     let first-set = subst (λ b. SetsUp x.counts c.args.first.1 (g.P.Bench.state b)) (sym c.new-first.ensures.below) c.requires.first in
     let second-set = subst (λ b. SetsUp x.counts c.args.second.1 (g.Q.Bench.state b)) (sym c.new-second.ensures.below) c.requires.second in
     record {
-      first = IfOk-weaker _ _ _ (λ v. turned_performs x z _ _ _ _ (first_of before) (first_of (vec_items v)) by first-set first-turn first) c.go-on-2.ensures.first;
-      second = IfOk-weaker _ _ _ (λ v. turned_performs x z _ _ _ _ (second_of before) (second_of (vec_items v)) by second-set second-turn second) c.go-on-2.ensures.second;
+      first = IfOk-weaker _ _ _ (λ v. turned_performs x z _ _ _ _ (first_of before) (first_of (vec_items v)) by first-set first-turn first) c.go_on-2.ensures.first;
+      second = IfOk-weaker _ _ _ (λ v. turned_performs x z _ _ _ _ (second_of before) (second_of (vec_items v)) by second-set second-turn second) c.go_on-2.ensures.second;
     }

@@ -9,4 +9,4 @@ returns c =
     let m = c.args.self.now in
     let r = c.args.routine in
     let l = c.args.label in
-    c.block-at.ensures ∙ ap (λ bs. block_at bs r l) (c.as-slice.ensures ∙ m.labelled) ∙ block_at_is r l (records_of m)
+    c.block_at.ensures ∙ ap (λ bs. block_at bs r l) (c.as_slice.ensures ∙ m.labelled) ∙ block_at_is r l (records_of m)

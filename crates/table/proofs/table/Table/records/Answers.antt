@@ -7,4 +7,4 @@ use Rattle.table.proofs.table.Table.records.Goals as goal
 pub returns : goal.returns
 returns c =
     let m = c.args.self.now in
-    record { same = c.as-slice.ensures; formed = subst WellFormed (sym c.as-slice.ensures) (known_formed (records_of m) m.formed) }
+    record { same = c.as_slice.ensures; formed = subst WellFormed (sym c.as_slice.ensures) (known_formed (records_of m) m.formed) }

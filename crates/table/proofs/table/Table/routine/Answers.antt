@@ -8,4 +8,4 @@ pub returns : goal.returns
 returns c =
     let m = c.args.self.now in
     let g = c.args.identifier in
-    c.routine_at_of.ensures ∙ ap (λ rs. routine_at_of rs g) (c.as-slice.ensures ∙ m.identified) ∙ routine_at_is g (records_of m)
+    c.routine_at.ensures ∙ ap (λ rs. routine_at_of rs g) (c.as_slice.ensures ∙ m.identified) ∙ routine_at_is g (records_of m)

@@ -22,8 +22,8 @@ listed c = omega (arith, has_room c.args.self.now c.args.site c.requires, c.args
 pub bounds-self-self : goal.bounds-self-self
 bounds-self-self c = has_room c.args.self.now c.args.site c.requires
 
-pub invariant-of-self : goal.invariant-of-self
-invariant-of-self c =
+pub invariant_of-self : goal.invariant_of-self
+invariant_of-self c =
     let l = c.args.self.now in
     let site = c.args.site in
     let p : Placement = record { site = site; feeder = c.args.feeder; angle = c.args.angle } in
@@ -31,16 +31,12 @@ invariant-of-self c =
     let fits : l.made < site_count = has_room l site c.requires in
     let here : site.index < length spots = omega (arith, length_after l.made l.placements, site.within) in
     let wrote = after_write l.made l.placements p (omega (arith, l.all)) in
-    let none : on_spot (get_or spots site.index Free) ≡ 0 = ap on_spot c.requires in (
-      length-set l.placements l.made p ∙ l.all,
-      (
-        omega arith,
-        (
-          subst (λ s. sum_by on_spot s ≡ l.made + 1) (sym wrote) (omega (arith, l.apart, sum_by-set on_spot spots site.index (spot p) Free here)),
-          tt,
-        ),
-      ),
-    )
+    let none : on_spot (get_or spots site.index Free) ≡ 0 = ap on_spot c.requires in
+    record {
+      all = length-set l.placements l.made p ∙ l.all;
+      bound = omega arith;
+      apart = subst (λ s. sum_by on_spot s ≡ l.made + 1) (sym wrote) (omega (arith, l.apart, sum_by-set on_spot spots site.index (spot p) Free here));
+    }
 
 pub returns : goal.returns
 returns c =
