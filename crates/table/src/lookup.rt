@@ -17,7 +17,7 @@ pub trait Entry {
 
 /// The place of the first entry with the key, if one has it.
 pub fn find<E: Entry>(entries: &[E], key: &E::Key) -> Option<usize>
-    ensures { Finds (λ e. keyed e ≡ key.now) entries.now result }
+    ensures { Finds (λ e. E.keyed e ≡ key.now) entries.now result }
 {
     for (at, entry) in entries.iter().enumerate() {
         if entry.key() == *key {

@@ -11,7 +11,7 @@ pub loop-count-preserved : goal.loop-count-preserved
 loop-count-preserved c = one_more _ _ _ _ _ _ (omega arith) c.loop-count.invariant (by_bits c.in-Ok.ensures)
 
 pub returns-in_err-end : goal.returns-in_err-end
-returns-in_err-end c = stopped _ _ _ _ c.from-residual.ensures.1 (too_many _ _ _ _ c.loop-count.invariant _ (omega arith) c.in_err-end.ensures)
+returns-in_err-end c = stopped _ _ _ _ c.from_residual.ensures.1 (too_many _ _ _ _ c.loop-count.invariant _ (omega arith) c.in_err-end.ensures)
 
 pub returns : goal.returns
 returns c = eight _ _ _ _ c.loop-count.invariant (omega arith) c.in_ok-end.ensures

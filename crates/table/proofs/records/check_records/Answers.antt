@@ -14,7 +14,7 @@ push-requires c =
     let whole = c.is_whole.ensures.0 c.if-not-is_whole.false in
     let few = whole.1 in
     let on = c.loop-place-test.true in
-    let long = c.as_chunks.ensures.front-len in
+    let long = c.as_chunks.ensures.front_len in
     let count = counted c.as_chunks.result.0.now (held c.loop-place.records) c.loop-place.place (omega arith) c.loop-place.invariant in
     (lit< tt, omega arith)
 

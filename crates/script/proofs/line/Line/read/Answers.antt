@@ -15,8 +15,8 @@ pub returns-in_err-form : goal.returns-in_err-form
 returns-in_err-form c =
     let blamed = unread_form _ _ _ _ _ c.in-Some.ensures.0 c.in-Some-named.ensures c.in_err-form.ensures in
     record {
-      reads = stopped _ _ _ _ c.from-residual.ensures.1 (unread _ _ blamed);
-      blames = told _ _ _ c.from-residual.ensures.1 blamed;
+      reads = stopped _ _ _ _ c.from_residual.ensures.1 (unread _ _ blamed);
+      blames = told _ _ _ c.from_residual.ensures.1 blamed;
       once = one_told _;
       alone = alone _;
     }

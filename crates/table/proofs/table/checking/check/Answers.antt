@@ -13,9 +13,9 @@ use Rattle.table.proofs.table.checking.check.Goals.{After-as_slice-all, In_ok-ro
 pub returns-in_err-records : goal.returns-in_err-records
 returns-in_err-records c =
     let bs = c.args.bytes.now in
-    let p = err_from_is_err_and c.from-residual.result c.from-residual.ensures.1 in
-    let h : Checked bs c.from-residual.result = subst (Checked bs) (sym (p.1 ∙ ap Err p.2)) (by_layer_1 bs _ c.in_err-records.ensures) in
-    record { checked = h; exactly = exactly bs c.from-residual.result h }
+    let p = err_from_is_err_and c.from_residual.result c.from_residual.ensures.1 in
+    let h : Checked bs c.from_residual.result = subst (Checked bs) (sym (p.1 ∙ ap Err p.2)) (by_layer_1 bs _ c.in_err-records.ensures) in
+    record { checked = h; exactly = exactly bs c.from_residual.result h }
 
 -- the slice holds the records of the bytes
 holding : (c : After-as_slice-all) → Holds c.args.bytes.now c.as_slice-all.result.now
@@ -24,8 +24,8 @@ holding c = subst (Holds c.args.bytes.now) (sym c.as_slice-all.ensures) c.in_ok-
 pub returns-in_err-check_blocks : goal.returns-in_err-check_blocks
 returns-in_err-check_blocks c =
     let bs = c.args.bytes.now in
-    let r = c.from-residual-in_err-check_blocks.result in
-    let p = err_from_is_err_and r c.from-residual-in_err-check_blocks.ensures.1 in
+    let r = c.from_residual-in_err-check_blocks.result in
+    let p = err_from_is_err_and r c.from_residual-in_err-check_blocks.ensures.1 in
     let h : Checked bs r = subst (Checked bs) (sym (p.1 ∙ ap Err p.2)) (by_layer_2 bs _ _ (holding (goal.at.returns-in_err-check_blocks c).After-as_slice-all) c.in_err-check_blocks.ensures) in
     record { checked = h; exactly = exactly bs r h }
 
@@ -40,8 +40,8 @@ check_names-requires c =
 pub returns-in_err-routines : goal.returns-in_err-routines
 returns-in_err-routines c =
     let bs = c.args.bytes.now in
-    let r = c.from-residual-in_err-routines.result in
-    let p = err_from_is_err_and r c.from-residual-in_err-routines.ensures.1 in
+    let r = c.from_residual-in_err-routines.result in
+    let p = err_from_is_err_and r c.from_residual-in_err-routines.ensures.1 in
     let h : Checked bs r = subst (Checked bs) (sym (p.1 ∙ ap Err p.2))
     (by_layer_3 bs _ _ (holding (goal.at.returns-in_err-routines c).After-as_slice-all) c.in_ok-check_blocks.ensures c.in_err-routines.ensures) in
     record { checked = h; exactly = exactly bs r h }
@@ -58,7 +58,7 @@ invariant_of-result c =
     let same = c.as_slice-all.ensures in
     let index = c.in_ok-routines.ensures.1 in
     let w = (goal.at.invariant_of-result c).In_ok-routines in
-    (∣ (accepts w).formed ∣₁, (index.routine_list ∙ ap routine_entries same, (index.block_list ∙ ap block_entries same, tt)))
+    record { formed = ∣ (accepts w).formed ∣₁; identified = index.routine_list ∙ ap routine_entries same; labelled = index.block_list ∙ ap block_entries same }
 
 pub returns : goal.returns
 returns c =
