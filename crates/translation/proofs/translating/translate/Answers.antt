@@ -3,8 +3,8 @@ use Rattle.std.proofs.lemmas.Int.{ints}
 use Rattle.translation.proofs.Answering.{answer_low, answer_near}
 use Rattle.translation.proofs.translating.translate.Goals as goal
 
-pub overflow-cast-result : goal.overflow-cast-result
-overflow-cast-result c =
+pub overflow_cast-result : goal.overflow_cast-result
+overflow_cast-result c =
     let low = answer_low c.args.table.now c.args.out.now c.translate_bytes.new.out c.in-Ok.written c.in-Ok.ensures in
     search rules
 

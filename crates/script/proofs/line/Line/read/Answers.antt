@@ -11,19 +11,19 @@ returns-then-word-eq35 c =
     let first = c.in-Some.ensures in
     record { reads = reads_comment _ _ _ first.0 first.1 c.if-word-eq35.true; blames = tt; once = one_told _; alone = alone _ }
 
-pub returns-in_err-form : goal.returns-in_err-form
-returns-in_err-form c =
-    let blamed = unread_form _ _ _ _ _ c.in-Some.ensures.0 c.in-Some-named.ensures c.in_err-form.ensures in
+pub returns-in_err-form-in-Some-named : goal.returns-in_err-form-in-Some-named
+returns-in_err-form-in-Some-named c =
+    let blamed = unread_form _ _ _ _ _ c.in-Some.ensures.0 c.in-Some-named.ensures c.in_err-form-in-Some-named.ensures in
     record {
-      reads = stopped _ _ _ _ c.from_residual.ensures.1 (unread _ _ blamed);
-      blames = told _ _ _ c.from_residual.ensures.1 blamed;
+      reads = stopped _ _ _ _ c.from_residual-in_err-form-in-Some-named.ensures.1 (unread _ _ blamed);
+      blames = told _ _ _ c.from_residual-in_err-form-in-Some-named.ensures.1 blamed;
       once = one_told _;
       alone = alone _;
     }
 
-pub returns-in_ok-form : goal.returns-in_ok-form
-returns-in_ok-form c =
-    record { reads = reads_asks _ _ _ _ _ c.in-Some.ensures.0 c.in-Some-named.ensures c.in_ok-form.ensures; blames = tt; once = one_told _; alone = alone _ }
+pub returns-in_ok-form-in-Some-named : goal.returns-in_ok-form-in-Some-named
+returns-in_ok-form-in-Some-named c =
+    record { reads = reads_asks _ _ _ _ _ c.in-Some.ensures.0 c.in-Some-named.ensures c.in_ok-form-in-Some-named.ensures; blames = tt; once = one_told _; alone = alone _ }
 
 pub returns-in-None : goal.returns-in-None
 returns-in-None c =
