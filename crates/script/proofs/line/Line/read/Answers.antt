@@ -15,8 +15,8 @@ pub returns-in_err-form-in-Some-named : goal.returns-in_err-form-in-Some-named
 returns-in_err-form-in-Some-named c =
     let blamed = unread_form _ _ _ _ _ c.in-Some.ensures.0 c.in-Some-named.ensures c.in_err-form-in-Some-named.ensures in
     record {
-      reads = stopped _ _ _ _ c.from_residual-in_err-form-in-Some-named.ensures.1 (unread _ _ blamed);
-      blames = told _ _ _ c.from_residual-in_err-form-in-Some-named.ensures.1 blamed;
+      reads = stopped _ _ _ _ c.from_residual.ensures.1 (unread _ _ blamed);
+      blames = told _ _ _ c.from_residual.ensures.1 blamed;
       once = one_told _;
       alone = alone _;
     }
