@@ -97,7 +97,7 @@ fn tables(rt: HostRuntime) -> Result<(), Fail> {
     asks(&rt, b"load -", Line::Load)?;
     assert_eq!(rt;
         Line::table(rt.alloc(), b"load 52fF")?.as_slice(),
-        &[0x52, 0xff]
+        [0x52, 0xff].as_slice()
     );
     assert_eq!(rt; Line::table(rt.alloc(), b"load -")?.len(), 0);
     refuses(&rt, b"load", Expected::Table)?;

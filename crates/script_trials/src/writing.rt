@@ -1,5 +1,6 @@
 use bench::{Angle, Fault, Feeder, Nozzle, SetUpRefusal, ShiftRefusal, Site, Spot, State};
 use script::{Answer, Expected, pair_text};
+use std::process::Abort;
 use std::test::*;
 
 const FRESH: State = State {
@@ -11,32 +12,32 @@ const FRESH: State = State {
     sites: [Spot::Free; 32],
 };
 
-fn writes(rt: HostRuntime, answer: Answer, text: &str) -> Result<(), Fail> {
-    assert_eq!(answer.text(rt.alloc())?.as_str(), text);
+fn writes(rt: &(impl Abort + AllocGlobal), answer: Answer, text: &str) -> Result<(), Fail> {
+    assert_eq!(rt; answer.text(rt.alloc())?.as_str(), text);
     Ok(())
 }
 
 #[test]
 fn short_answers(rt: HostRuntime) -> Result<(), Fail> {
-    writes(rt, Answer::Done, "ok")?;
+    writes(&rt, Answer::Done, "ok")?;
     writes(
-        rt,
+        &rt,
         Answer::SetUpRefused(SetUpRefusal::CountOutOfRange),
         "refused 48",
     )?;
     writes(
-        rt,
+        &rt,
         Answer::ShiftRefused(ShiftRefusal::ShiftOutOfRange),
         "refused 49",
     )?;
-    writes(rt, Answer::Number(-1), "number -1")?;
-    writes(rt, Answer::Fault(Fault::SiteTaken), "fault 47")
+    writes(&rt, Answer::Number(-1), "number -1")?;
+    writes(&rt, Answer::Fault(Fault::SiteTaken), "fault 47")
 }
 
 #[test]
 fn a_fresh_state(rt: HostRuntime) -> Result<(), Fail> {
     writes(
-        rt,
+        &rt,
         Answer::State(FRESH),
         "state 0 0 - counts 0 1 2 3 4 5 999 7 bin 0 sites none",
     )
@@ -69,7 +70,7 @@ fn a_used_state(rt: HostRuntime) -> Result<(), Fail> {
         sites,
     };
     writes(
-        rt,
+        &rt,
         Answer::State(state),
         "state 31 35999 7 counts 0 0 0 0 0 0 0 0 bin 12 sites 2:0:0 31:7:35999",
     )
@@ -82,7 +83,7 @@ fn refused_tables(rt: HostRuntime) -> Result<(), Fail> {
         cause: 11,
         place: 256,
     };
-    writes(rt, refused, "refused 3 11 256")
+    writes(&rt, refused, "refused 3 11 256")
 }
 
 #[test]
