@@ -1,4 +1,5 @@
-//! Checked tables translated to continuation form, in bytes. `translate` is what a program in C calls.
+//! Checked tables translated to continuation form, in bytes. `translate` is what a program in C calls, by
+//! the static library `translation_c`.
 #![tactic(auto)]
 
 mod addresses;

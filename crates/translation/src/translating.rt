@@ -33,8 +33,8 @@ pub fn translate_bytes(bytes: &[u8], out: &mut [u8]) -> Result<usize, Translatio
 }
 
 /// The same for a caller in C: how many bytes were written, or −(cause × 1000 + place).
-#[unsafe(no_mangle)]
-pub extern "C" fn translate(table: &[u8], out: &mut [u8]) -> i32
+/// `translation_c` exports it.
+pub fn translate(table: &[u8], out: &mut [u8]) -> i32
     ensures { Told table.now out.old out.new result }
 {
     match translate_bytes(table, out) {
