@@ -13,7 +13,7 @@ use Rattle.bench.proofs.SetUps.{Setting, Turning, same_set_up, same_turn}
 use Rattle.script.specs.declared.answer.Answer.{Answer}
 use Rattle.session.specs.Answering.{set_up_answer_of, turn_answer_of, report}
 use Rattle.session.specs.Events.{Does}
-use Rattle.session.specs.Performs.{Performs, Goes_on, states}
+use Rattle.session.specs.Performs.{Performs, GoesOn, states}
 use Rattle.session.specs.Performs.Performs.{plain, turned}
 use Rattle.session.specs.declared.event.Event.{Event}
 use Rattle.session.specs.declared.exchange.Exchange.{Exchange}
@@ -30,7 +30,7 @@ pub goes_on : (x : Section) (s t : State) (f : Exchange → Answer) (es : List E
     es ≡ vec_items x.events → length unfilled ≡ length es → length slots ≡ length unfilled →
     History Does s (take (length unfilled) es) (map f (take (length es) slots)) t →
     all ≡ (before ++ slots) ++ extra → map f extra ≡ report x.state t →
-    Goes_on x s (map f before) (map f all)
+    GoesOn x s (map f before) (map f all)
 goes_on x s t f es slots unfilled before extra all same long kept history is end =
     let given : take (length unfilled) es ≡ vec_items x.events = take_all (length unfilled) es (omega arith) ∙ same in
     let filled : take (length es) slots ≡ slots = take_all (length es) slots (omega arith) in
@@ -54,12 +54,12 @@ second_state false s t = refl
 
 -- a bench that goes on after its set-up, and one that was turned
 pub plain_performs : (x : Section) (r : Result (Unit {0}) SetUpRefusal) (s : State) (before all : List Answer) → x.turn ≡ None → SetsUp x.counts r s →
-    before ≡ set_up_answer_of r ∷ [] → Goes_on x s before all → Performs x all
+    before ≡ set_up_answer_of r ∷ [] → GoesOn x s before all → Performs x all
 plain_performs x r s before all e u b g =
     subst (Performs x) (sym (g.is ∙ ap (λ l. l ++ (g.answers ++ report x.state g.last)) b)) (plain e u g.history)
 
 pub turned_performs : (x : Section) (z : ℤ) (r : Result (Unit {0}) SetUpRefusal) (q : Result (Unit {0}) ShiftRefusal) (a : Angle) (s : State) (before all : List Answer) → x.turn ≡ Some z →
-    SetsUp x.counts r s → TurnsBy z q a → before ≡ set_up_answer_of r ∷ turn_answer_of q ∷ [] → Goes_on x (state_under a s) before all → Performs x all
+    SetsUp x.counts r s → TurnsBy z q a → before ≡ set_up_answer_of r ∷ turn_answer_of q ∷ [] → GoesOn x (state_under a s) before all → Performs x all
 turned_performs x z r q a s before all e u w b g =
     subst (Performs x) (sym (g.is ∙ ap (λ l. l ++ (g.answers ++ report x.state g.last)) b)) (turned e u w g.history)
 

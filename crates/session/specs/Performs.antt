@@ -32,7 +32,7 @@ states false s t = []
 
 -- the first, or the second bench, from state s on, answers this to the events of a section and at its
 -- end, after what it answered before
-pub record Goes_on (x : Section) (s : Standing) (before all : List Answer) : Type 0 where
+pub record GoesOn (x : Section) (s : Standing) (before all : List Answer) : Type 0 where
   pub answers : List Answer
   pub last : Standing
   pub history : History Does s (vec_items x.events) answers last

@@ -8,11 +8,11 @@ use Rattle.session.specs.declared.event.Event.{Event}
 use Rattle.session.specs.declared.exchange.Exchange.{Exchange}
 
 -- what the first, and what the second bench answered, by these exchanges
-abbrev pub first_of : List Exchange → List Answer
-first_of xs = map (λ x. x.first) xs
+abbrev pub first_answers : List Exchange → List Answer
+first_answers xs = map (λ x. x.first) xs
 
-abbrev pub second_of : List Exchange → List Answer
-second_of xs = map (λ x. x.second) xs
+abbrev pub second_answers : List Exchange → List Answer
+second_answers xs = map (λ x. x.second) xs
 
 -- of these events, those that are given: as many as there are slots
 abbrev pub given : List Event → List Exchange → List Event
@@ -26,9 +26,9 @@ filled es slots = take (length es) slots
 -- the new ones; and the benches are in the states t and t'
 pub record BothPlayed (es : List Event) (old new : List Exchange) (s s' t t' : State) : Type 0 where
   -- each bench answers and ends as the rules say
-  pub first : History Does s (given es old) (first_of (filled es new)) t
-  pub second : History Does s' (given es old) (second_of (filled es new)) t'
+  pub first : History Does s (given es old) (first_answers (filled es new)) t
+  pub second : History Does s' (given es old) (second_answers (filled es new)) t'
   -- benches that start equal answer alike, and are equal after each event
-  pub agree : s ≡ s' → Agreement Does s s' (given es old) (first_of (filled es new)) (second_of (filled es new)) t t'
+  pub agree : s ≡ s' → Agreement Does s s' (given es old) (first_answers (filled es new)) (second_answers (filled es new)) t t'
   -- slots for which there was no event are as they were
   pub rest : drop (length es) new ≡ drop (length es) old

@@ -1,7 +1,7 @@
 ghost use Rattle.std.specs.Prelude.{◌≡◌, ◌++◌, IfOk};
 ghost use Rattle.bench.specs.SetUps.{SetsUp};
-ghost use Rattle.session.specs.Performs.{Performs, Goes_on, states};
-ghost use Rattle.session.specs.Plays.{first_of, second_of};
+ghost use Rattle.session.specs.Performs.{Performs, GoesOn, states};
+ghost use Rattle.session.specs.Plays.{first_answers, second_answers};
 
 use super::answering::{SetUp, set_up_answer, turn_answer};
 use super::exchange::Exchange;
@@ -15,9 +15,9 @@ impl Section {
     /// Performs the section on two benches of the kinds that it names, and tells what both answered
     /// to each event. Each answers as the rules say, and both answer alike.
     pub fn perform(&self, heap: Global) -> Result<Vec<Exchange>, AllocError>
-        ensures first { IfOk result (λ v. Performs self.now (first_of v.items)) }
-        ensures second { IfOk result (λ v. Performs self.now (second_of v.items)) }
-        ensures alike { IfOk result (λ v. first_of v.items ≡ second_of v.items) }
+        ensures first { IfOk result (λ v. Performs self.now (first_answers v.items)) }
+        ensures second { IfOk result (λ v. Performs self.now (second_answers v.items)) }
+        ensures alike { IfOk result (λ v. first_answers v.items ≡ second_answers v.items) }
     {
         let counts = self.counts;
         match (self.first, self.second) {
@@ -53,8 +53,8 @@ impl Section {
     ) -> Result<Vec<Exchange>, AllocError>
         requires first { SetsUp self.now.counts first.1 (P.Bench.state first.0) }
         requires second { SetsUp self.now.counts second.1 (Q.Bench.state second.0) }
-        ensures first { IfOk result (λ v. Performs self.now (first_of v.items)) }
-        ensures second { IfOk result (λ v. Performs self.now (second_of v.items)) }
+        ensures first { IfOk result (λ v. Performs self.now (first_answers v.items)) }
+        ensures second { IfOk result (λ v. Performs self.now (second_answers v.items)) }
     {
         let (first, first_outcome) = first;
         let (second, second_outcome) = second;
@@ -83,8 +83,8 @@ impl Section {
         mut second: Q,
         before: Vec<Exchange>,
     ) -> Result<Vec<Exchange>, AllocError>
-        ensures first { IfOk result (λ v. Goes_on self.now (P.Bench.state first) (first_of before.items) (first_of v.items)) }
-        ensures second { IfOk result (λ v. Goes_on self.now (Q.Bench.state second) (second_of before.items) (second_of v.items)) }
+        ensures first { IfOk result (λ v. GoesOn self.now (P.Bench.state first) (first_answers before.items) (first_answers v.items)) }
+        ensures second { IfOk result (λ v. GoesOn self.now (Q.Bench.state second) (second_answers before.items) (second_answers v.items)) }
     {
         let unanswered = Exchange {
             first: Answer::Done,

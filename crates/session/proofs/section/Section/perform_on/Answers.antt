@@ -3,7 +3,7 @@ use Rattle.std.proofs.lemmas.Result.{IfOk-weaker}
 use Rattle.std.proofs.lemmas.Int.{to_z-of_z}
 use Rattle.bench.specs.SetUps.{SetsUp, TurnsBy}
 use Rattle.session.specs.Answering.{set_up_answer_of, turn_answer_of}
-use Rattle.session.specs.Plays.{first_of, second_of}
+use Rattle.session.specs.Plays.{first_answers, second_answers}
 use Rattle.session.proofs.Performing.{plain_performs, turned_performs}
 use Rattle.session.proofs.section.Section.perform_on.Goals as goal
 
@@ -12,11 +12,11 @@ returns-in_default g c =
     let x = c.args.self.now in
     let before = vec_items c.in_ok-vec.field-0 in
     let unturned : x.turn ≡ None = search rules in
-    let first : first_of before ≡ set_up_answer_of c.args.first.1 ∷ [] = search rules in
-    let second : second_of before ≡ set_up_answer_of c.args.second.1 ∷ [] = search rules in
+    let first : first_answers before ≡ set_up_answer_of c.args.first.1 ∷ [] = search rules in
+    let second : second_answers before ≡ set_up_answer_of c.args.second.1 ∷ [] = search rules in
     record {
-      first = IfOk-weaker _ _ _ (λ v. plain_performs x _ _ (first_of before) (first_of (vec_items v)) unturned c.requires.first first) c.go_on.ensures.first;
-      second = IfOk-weaker _ _ _ (λ v. plain_performs x _ _ (second_of before) (second_of (vec_items v)) unturned c.requires.second second) c.go_on.ensures.second;
+      first = IfOk-weaker _ _ _ (λ v. plain_performs x _ _ (first_answers before) (first_answers (vec_items v)) unturned c.requires.first first) c.go_on.ensures.first;
+      second = IfOk-weaker _ _ _ (λ v. plain_performs x _ _ (second_answers before) (second_answers (vec_items v)) unturned c.requires.second second) c.go_on.ensures.second;
     }
 
 pub returns : goal.returns
@@ -24,8 +24,8 @@ returns g c =
     let x = c.args.self.now in
     let before = vec_items c.in_ok-vec-2.field-0 in
     let by : x.turn ≡ Some c.in-Some.shift = search rules in
-    let first : first_of before ≡ set_up_answer_of c.args.first.1 ∷ turn_answer_of c.new-first.result.1 ∷ [] = search rules in
-    let second : second_of before ≡ set_up_answer_of c.args.second.1 ∷ turn_answer_of c.new-second.result.1 ∷ [] = search rules in
+    let first : first_answers before ≡ set_up_answer_of c.args.first.1 ∷ turn_answer_of c.new-first.result.1 ∷ [] = search rules in
+    let second : second_answers before ≡ set_up_answer_of c.args.second.1 ∷ turn_answer_of c.new-second.result.1 ∷ [] = search rules in
     let z = c.in-Some.shift in
     let fits : SFits w32 z = search rules in
     let same = to_z-of_z w32 z fits in
@@ -34,6 +34,6 @@ returns g c =
     let first-set = subst (λ b. SetsUp x.counts c.args.first.1 (g.P.Bench.state b)) (sym c.new-first.ensures.below) c.requires.first in
     let second-set = subst (λ b. SetsUp x.counts c.args.second.1 (g.Q.Bench.state b)) (sym c.new-second.ensures.below) c.requires.second in
     record {
-      first = IfOk-weaker _ _ _ (λ v. turned_performs x z _ _ _ _ (first_of before) (first_of (vec_items v)) by first-set first-turn first) c.go_on-2.ensures.first;
-      second = IfOk-weaker _ _ _ (λ v. turned_performs x z _ _ _ _ (second_of before) (second_of (vec_items v)) by second-set second-turn second) c.go_on-2.ensures.second;
+      first = IfOk-weaker _ _ _ (λ v. turned_performs x z _ _ _ _ (first_answers before) (first_answers (vec_items v)) by first-set first-turn first) c.go_on-2.ensures.first;
+      second = IfOk-weaker _ _ _ (λ v. turned_performs x z _ _ _ _ (second_answers before) (second_answers (vec_items v)) by second-set second-turn second) c.go_on-2.ensures.second;
     }
