@@ -1,5 +1,5 @@
 ghost use Rattle.std.specs.Prelude.{◌≡◌};
-ghost use Rattle.decoding.specs.Scopes.{nowhere, scope_at};
+ghost use Rattle.scopes.specs.Scopes.{nowhere, scope_at};
 
 use language::{Handler, Record};
 

@@ -5,8 +5,8 @@ use Rattle.language.specs.declared.record.Record.{Record}
 use Rattle.language.specs.declared.record.Record.TheVariants.{Routine, Block, Body}
 use Rattle.language.specs.Lines.{line, lines, lines_after}
 use Rattle.language.proofs.Lists.{clash}
-use Rattle.decoding.specs.declared.scope.Scope.{Scope}
-use Rattle.decoding.specs.Scopes.{nowhere, scope_at}
+use Rattle.scopes.specs.declared.scope.Scope.{Scope}
+use Rattle.scopes.specs.Scopes.{nowhere, scope_at}
 
 -- what is left from a place on begins with what stands there
 pub drop_nth : {X : Type 0} (xs : List X) (p : ℕ) (x : X) → slice_get xs p ≡ Some x → drop p xs ≡ x ∷ drop (suc p) xs

@@ -2,7 +2,7 @@
 use Rattle.std.specs.Prelude.{◌+◌, None}
 use Rattle.language.specs.declared.record.Record.{Record}
 use Rattle.language.specs.declared.record.Record.TheVariants.{Routine, Block, Body}
-use Rattle.decoding.specs.declared.scope.Scope.{Scope}
+use Rattle.scopes.specs.declared.scope.Scope.{Scope}
 
 abbrev pub nowhere : Scope
 nowhere = record { routine = 0; variables = 0; handler = None }
