@@ -1,0 +1,33 @@
+ghost use Rattle.direct.specs.Machines.{state_of};
+ghost use Rattle.direct.specs.Programs.{records_in};
+ghost use Rattle.language.specs.Beats.{Raises};
+ghost use Rattle.language.specs.Progress.{progressed};
+ghost use Rattle.language.specs.Reachable.{Reachable};
+
+use super::super::program::Program;
+use super::Machine;
+use language::{Ending, Progress};
+
+impl Machine {
+    /// Raises a value. The handler of the block takes it; where there is none, that of the newest frame
+    /// whose block has one, with what the frame saved. Where there is none either, the run ends.
+    pub fn raise(&mut self, program: &Program, value: i32) -> Progress
+        requires { Reachable (records_in program.now) (state_of self.old) }
+        ensures { Raises (records_in program.now) (state_of self.old) value (progressed result (state_of self.new)) }
+    {
+        if let Some(handler) = self.handler {
+            self.variables.set(handler.catch, value);
+            self.enter(program.link(self.at).handler);
+            return Progress::Running;
+        }
+        let Some(caught) = self.frames.catch() else {
+            return Progress::Ended(Ending::Raised(value));
+        };
+        let (frame, handler) = caught;
+        self.routine = frame.routine;
+        self.variables = frame.variables;
+        self.variables.set(handler.catch, value);
+        self.enter(program.link(frame.next - 1).handler);
+        Progress::Running
+    }
+}
