@@ -1,5 +1,5 @@
 -- The calls of a stand, from what its parts do.
-use Rattle.std.proofs.Common.{◌≡◌, ℕ, suc, ◌+◌, ◌<◌, ◌≤◌, ◌≢◌, List, [], length, ℤ, pos, Some, None, Ok, Err, Option, sym, refl, ap, ◌∙◌, subst, add-one, arith}
+use Rattle.std.proofs.Common.{◌≡◌, ℕ, ◌+◌, ◌<◌, ◌≤◌, List, [], length, ℤ, pos, Some, None, Ok, Option, sym, refl, ap, ◌∙◌, subst, add-one, arith}
 use mathlib.Core.Logic.{∥∥₁_elim, ∥∥₁_map}
 use Rattle.bench.proofs.Rules.{respond_responds}
 use Rattle.bench.specs.Respond.{respond}
@@ -10,7 +10,7 @@ use Rattle.direct.proofs.Programs.{formed}
 use Rattle.direct.specs.Going.{Went}
 use Rattle.direct.specs.Keeping.{Keeps}
 use Rattle.direct.specs.Programs.{records_in}
-use Rattle.direct.specs.Stands.{table_in, run_in, go_answer}
+use Rattle.direct.specs.Stands.{go_answer}
 use Rattle.direct.specs.declared.gone.Gone.{Gone}
 use Rattle.direct.specs.declared.program.Program.{Program}
 use Rattle.language.proofs.DirectCalls.{begins_reached, keeps_reached as stays-reached}
@@ -18,13 +18,11 @@ use Rattle.language.proofs.Lists.{all_nth, nth_below}
 use Rattle.language.proofs.SoundCalls.{goes_good}
 use Rattle.language.specs.Asked.{Asked}
 use Rattle.language.specs.Bytes.{InRange}
-use Rattle.language.specs.Calls.{Stand, Event, start, go, jog, Answer, done, start_refused, replied, went, progress_number, progress_value, most_beats, over, starts, start_miscounted, goes, jogs}
+use Rattle.language.specs.Calls.{Stand, start, go, jog, done, start_refused, replied, went, progress_number, progress_value, starts, start_miscounted, goes, jogs}
 use Rattle.language.specs.Direct.{direct_begin, DirectBeat, DirectGoes, DirectCalls}
-use Rattle.language.specs.Lines.{Enters}
 use Rattle.language.specs.Progress.{progressed, run_of}
 use Rattle.language.specs.Reachable.{Reachable, ReachableRun}
-use Rattle.language.specs.Runs.{variable_count, State, Run, running, ended, with_arguments}
-use Rattle.language.specs.declared.ending.Ending.{Ending}
+use Rattle.language.specs.Runs.{variable_count, State, Run, running, with_arguments}
 use Rattle.language.specs.declared.ending.Ending.TheVariants.{Returned, Raised, Exhausted}
 use Rattle.language.specs.declared.progress.Progress.{Progress}
 use Rattle.language.specs.declared.progress.Progress.TheVariants.{Running, Ended}

@@ -1,8 +1,7 @@
 -- Beats one after another: whatever goes on from where they lead goes on from where they began.
-use Rattle.std.proofs.Common.{◌≡◌, ℕ, suc, ◌+◌, ◌-◌, ◌<◌, ◌≤◌, List, sym, refl, subst, arith}
+use Rattle.std.proofs.Common.{◌≡◌, ℕ, suc, ◌+◌, ◌-◌, ◌<◌, List, refl, subst, arith}
 use Rattle.bench.specs.declared.state.State.{State as Standing}
 use Rattle.direct.specs.Going.{Went}
-use Rattle.direct.specs.declared.gone.Gone.{Gone}
 use Rattle.language.proofs.NextBeat.{beat_on}
 use Rattle.language.specs.Beats.{Beat}
 use Rattle.language.specs.Calls.{over, enough, more}

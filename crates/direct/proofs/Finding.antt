@@ -1,12 +1,12 @@
 -- What is found by name stands in the table.
 use Rattle.std.proofs.Common.{◌≡◌, ℕ, suc, ◌+◌, ◌<◌, ◌≤◌, List, length, Some, None, Option, ap, ◌∙◌, add-one, arith}
 use Rattle.std.specs.List.{slice_get}
-use Rattle.direct.specs.Links.{own_handler_of, Leads, EntersAt}
+use Rattle.direct.specs.Links.{own_handler_of, Leads}
 use Rattle.direct.specs.declared.link.Target.{Target}
 use Rattle.language.proofs.Lines.{length-lines}
-use Rattle.language.proofs.Lists.{clash, nth_below, place_in}
+use Rattle.language.proofs.Lists.{nth_below, place_in}
 use Rattle.language.proofs.Props.{known_formed}
-use Rattle.language.specs.Lines.{lines, heads_routine, heads_block, routine_place, block_place, Heads, Enters}
+use Rattle.language.specs.Lines.{lines, heads_routine, heads_block, routine_place, block_place}
 use Rattle.language.specs.declared.handler.Handler.{Handler}
 use Rattle.language.specs.declared.record.Record.{Record}
 use Rattle.table.specs.Checked.{records_of}

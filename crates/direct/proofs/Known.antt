@@ -1,5 +1,5 @@
 -- What is known to hold, with nothing said of why, can be had where there is only one way for it to hold.
-use Rattle.std.proofs.Common.{◌≡◌, ℕ, zero, suc, List, [], ◌∷◌, length, get_or, Some, None, Option, sym, refl, ap, ◌∙◌, subst, arith}
+use Rattle.std.proofs.Common.{◌≡◌, ℕ, zero, suc, List, [], ◌∷◌, get_or, Some, None, Option, refl, ap, arith}
 use mathlib.Core.Logic.{∥∥₁_elim, ∥∥₁_map}
 use native.Mathlib.Bridge.{le_prop}
 use native.Mathlib.Nat.{ℕ_set}
@@ -7,11 +7,10 @@ use Rattle.direct.specs.Links.{Leads, EntersAt, LinkedBy, HandledBy, no_link, Li
 use Rattle.direct.specs.declared.link.Link.{Link}
 use Rattle.direct.specs.declared.link.Target.{Target}
 use Rattle.language.proofs.Lists.{clash}
-use Rattle.language.specs.Lines.{Line, line, lines, Heads, Enters}
+use Rattle.language.specs.Lines.{Line, line, lines}
 use Rattle.language.specs.Reachable.{Stands, Resumes, Resumed, Reachable}
 use Rattle.language.specs.Runs.{Frame, State}
 use Rattle.language.specs.declared.handler.Handler.{Handler}
-use Rattle.language.specs.declared.instruction.Instruction.{Instruction}
 use Rattle.language.specs.declared.instruction.Instruction.TheVariants.{Constant, Move, Difference, Request, Call, Goto, Return, Branch, Raise}
 use Rattle.language.specs.declared.record.Record.{Record}
 use Rattle.language.specs.declared.record.Record.TheVariants.{Routine, Block, Body}

@@ -1,5 +1,5 @@
 -- The links of a table's records, made one by one.
-use Rattle.std.proofs.Common.{◌≡◌, ℕ, suc, ◌+◌, ◌<◌, ◌≤◌, ◌≢◌, ◌⊎◌, List, length, get_or, set, Some, None, Option, sym, ap, ◌∙◌, subst, inl, inr, arith, length-set, get_or-set_other, get_or-set_same}
+use Rattle.std.proofs.Common.{◌≡◌, ℕ, ◌+◌, ◌<◌, ◌≤◌, ◌≢◌, ◌⊎◌, List, length, get_or, set, Some, None, Option, sym, ap, ◌∙◌, subst, inl, inr, arith, length-set, get_or-set_other, get_or-set_same}
 use Rattle.scopes.proofs.Scoped.{Under, under_start, under_next}
 use Rattle.scopes.specs.Scopes.{nowhere, scope_at}
 use Rattle.scopes.specs.declared.scope.Scope.{Scope}
@@ -7,7 +7,7 @@ use Rattle.direct.specs.Links.{LinkedBy, HandledBy, no_link, Linked}
 use Rattle.direct.specs.declared.link.Link.{Link}
 use Rattle.language.proofs.Lines.{length-lines}
 use Rattle.language.proofs.Lists.{nth_below}
-use Rattle.language.specs.Lines.{Line, line, lines}
+use Rattle.language.specs.Lines.{line, lines}
 use Rattle.language.specs.declared.handler.Handler.{Handler}
 use Rattle.language.specs.declared.record.Record.{Record}
 use Rattle.std.proofs.lemmas.Bool.{cases_lt}

@@ -1,5 +1,5 @@
 -- A program's table is well formed.
-use Rattle.std.proofs.Common.{◌<◌, ◌≤◌, length, arith}
+use Rattle.std.proofs.Common.{◌<◌, arith}
 use Rattle.direct.proofs.Rules.{at_below}
 use Rattle.direct.specs.Programs.{records_in}
 use Rattle.direct.specs.declared.program.Program.{Program}

@@ -1,5 +1,5 @@
 -- The rules of a beat, from what the machine's moves leave.
-use Rattle.std.proofs.Common.{◌≡◌, ℕ, suc, ◌<◌, ◌≤◌, Bool, true, false, List, [], ◌∷◌, map, length, take, set, ℤ, pos, Some, None, Ok, Err, Option, sym, refl, ap, ◌∙◌, subst, arith}
+use Rattle.std.proofs.Common.{◌≡◌, ℕ, suc, ◌<◌, true, false, List, [], map, length, take, set, ℤ, pos, Some, None, Ok, Err, Option, sym, ap, ◌∙◌, subst, arith}
 use lib.Signed.{le_z}
 use Rattle.bench.proofs.Rules.{respond_responds}
 use Rattle.bench.specs.Numbers.{fault_number}
@@ -7,26 +7,26 @@ use Rattle.bench.specs.Respond.{respond}
 use Rattle.bench.specs.Responds.{Answer, Responds}
 use Rattle.bench.specs.declared.fault.Fault.{Fault}
 use Rattle.bench.specs.declared.state.State.{State as Standing}
-use Rattle.direct.specs.Links.{Leads, EntersAt, LinkedBy, HandledBy}
+use Rattle.direct.specs.Links.{Leads}
 use Rattle.direct.specs.Machines.{entered, Called, Resumed}
 use Rattle.direct.specs.Programs.{LinkAt}
 use Rattle.direct.specs.declared.link.Link.{Link}
 use Rattle.direct.specs.declared.link.Target.{Target}
 use Rattle.language.proofs.Flow.{handled}
-use Rattle.language.proofs.Frames.{Catches, catches}
+use Rattle.language.proofs.Frames.{catches}
 use Rattle.language.proofs.Lines.{line_record}
 use Rattle.language.proofs.Lists.{nth_below}
-use Rattle.language.specs.Beats.{Raises, own, frames, nobody, Beat, constant, move, subtract, request, fault, call, exhaust, goto, return, finish, branch, branch_not, raise}
-use Rattle.language.specs.Lines.{line, lines, Heads, Enters}
-use Rattle.language.specs.Reachable.{Stands, Resumes, Reachable}
-use Rattle.language.specs.Runs.{frame_count, Frame, State, Run, running, ended, value, difference, onward, into, called_into, returned_to, Catcher, catcher, caught}
-use Rattle.language.specs.WellFormed.{WellFormed, HasBlock, HasRoutine}
+use Rattle.language.specs.Beats.{Raises, own, frames, nobody, Beat, constant, move, subtract, request, fault, call, exhaust, goto, return, finish, branch, branch_not}
+use Rattle.language.specs.Lines.{line, lines, Heads}
+use Rattle.language.specs.Reachable.{Resumes, Reachable}
+use Rattle.language.specs.Runs.{State, Run, running, ended, value, difference, onward, into, called_into, returned_to, Catcher, catcher}
+use Rattle.language.specs.WellFormed.{WellFormed}
 use Rattle.language.specs.declared.ending.Ending.TheVariants.{Returned, Raised, Exhausted}
 use Rattle.language.specs.declared.handler.Handler.{Handler}
 use Rattle.language.specs.declared.instruction.Instruction.{Instruction}
-use Rattle.language.specs.declared.instruction.Instruction.TheVariants.{Constant, Move, Difference, Request, Call, Goto, Return, Branch, Raise}
+use Rattle.language.specs.declared.instruction.Instruction.TheVariants.{Constant, Move, Difference, Request, Call, Goto, Return, Branch}
 use Rattle.language.specs.declared.record.Record.{Record}
-use Rattle.language.specs.declared.record.Record.TheVariants.{Routine, Block, Body}
+use Rattle.language.specs.declared.record.Record.TheVariants.{Body}
 use Rattle.std.specs.List.{slice_get}
 
 -- the state in a block that a target leads to

@@ -4,7 +4,7 @@ use Rattle.bench.specs.declared.state.State.{State as Standing}
 use Rattle.direct.specs.declared.gone.Gone.{Gone}
 use Rattle.language.specs.Direct.{DirectGoes}
 use Rattle.language.specs.Progress.{progressed}
-use Rattle.language.specs.Runs.{State, Run, running}
+use Rattle.language.specs.Runs.{State, running}
 use Rattle.language.specs.declared.record.Record.{Record}
 
 -- at most n beats from state s and bench b came to this, and leave the state s', if the run has not

@@ -1,5 +1,5 @@
 -- What the names in a table's records stand for, looked up beforehand.
-use Rattle.std.specs.Prelude.{◌≡◌, ℕ, suc, List, length, get_or, Some, None, Option, slice_index_or}
+use Rattle.std.specs.Prelude.{◌≡◌, ℕ, suc, List, get_or, Some, None, Option, slice_index_or}
 use Rattle.std.specs.List.{slice_get}
 use Rattle.language.specs.Lines.{line, lines, Heads, Enters}
 use Rattle.language.specs.declared.handler.Handler.{Handler}

@@ -1,5 +1,5 @@
 -- What a stand of the code stands for in the rules, and the answers of its calls.
-use Rattle.std.specs.Prelude.{◌≡◌, ℕ, List, Some, None, Ok, Err, Option, Result}
+use Rattle.std.specs.Prelude.{ℕ, List, Some, None, Ok, Err, Option, Result}
 use Rattle.bench.specs.declared.state.State.{State as Standing}
 use Rattle.direct.specs.Machines.{state_of}
 use Rattle.direct.specs.Programs.{records_in}

@@ -1,4 +1,4 @@
-use Rattle.std.proofs.Common.{◌≡◌, subst, arith}
+use Rattle.std.proofs.Common.{◌≡◌, arith}
 use Rattle.direct.proofs.Chains.{none_yet, one_more, ends, suffices}
 use Rattle.direct.proofs.Programs.{formed}
 use Rattle.direct.proofs.machine.Machine.go.Goals as goal

@@ -2,7 +2,7 @@ use Rattle.std.proofs.Common.{◌≡◌, Some, None, sym, ap, subst}
 use Rattle.direct.proofs.stand.Stand.load.Goals as goal
 use Rattle.direct.specs.Programs.{records_in}
 use Rattle.direct.specs.Stands.{stand_of}
-use Rattle.language.specs.Calls.{Stand, load, done, loads, load_not}
+use Rattle.language.specs.Calls.{load, done, loads, load_not}
 use Rattle.language.specs.Direct.{DirectCalls}
 use Rattle.table.specs.Checked.{records_of}
 

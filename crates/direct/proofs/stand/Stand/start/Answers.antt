@@ -1,4 +1,4 @@
-use Rattle.std.proofs.Common.{◌≡◌, ◌<◌, Some, sym, ap, ◌∙◌, subst, rules}
+use Rattle.std.proofs.Common.{◌<◌, Some, sym, ap, ◌∙◌, subst, rules}
 use Rattle.direct.proofs.Calling.{by_start, start_reached, by_miscount, few_arguments, main_below}
 use Rattle.direct.proofs.stand.Stand.start.Given as given
 use Rattle.direct.proofs.stand.Stand.start.Goals as goal
