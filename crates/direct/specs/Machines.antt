@@ -8,6 +8,10 @@ use Rattle.language.specs.declared.handler.Handler.{Handler}
 abbrev pub state_of : Machine → State
 state_of m = record { routine = m.routine; handler = m.handler; at = m.at; variables = m.variables.values; frames = standing m.frames }
 
+-- the state at another place, under another handler
+abbrev pub entered : State → ℕ → Option Handler → State
+entered s i h = record { routine = s.routine; handler = h; at = i; variables = s.variables; frames = s.frames }
+
 -- a call of the routine g, whose instructions begin at a place, with the values of these variables
 abbrev pub Called : State → ℕ → ℕ → ℕ → List ℕ → Bool → State → Type 0
 Called s x g at ys true s' =

@@ -1,8 +1,16 @@
-//! The direct stand: it runs a routine from its table. Here are its machine and the moves of that; the
-//! stand itself is to come.
+//! The direct stand: it runs a routine from its table, on any bench. Load makes a program of a table, in
+//! which names are looked up already; a machine runs the program, one instruction a beat.
 #![tactic(auto)]
 
 mod frame;
 mod frames;
+pub mod gone;
+mod link;
+mod linking;
 mod machine;
+mod program;
+pub mod stand;
 mod variables;
+
+pub use gone::Gone;
+pub use stand::Stand;

@@ -2,7 +2,10 @@ use super::frames::Frames;
 use super::variables::Variables;
 use language::Handler;
 
+mod beat;
+mod go;
 mod moves;
+mod raise;
 
 /// A run between two beats: the routine that runs, the handler of its block, the place of its record,
 /// its variables and the frames that stand.

@@ -1,5 +1,5 @@
 ghost use Rattle.std.specs.Prelude.{◌≡◌, ◌≤◌, map, length, slice_set};
-ghost use Rattle.language.specs.Runs.{variable_count, value, with_arguments};
+ghost use Rattle.language.specs.Runs.{variable_count, value, difference, with_arguments};
 
 /// The sixteen variables of a routine.
 #[derive(Clone, Copy)]
@@ -44,6 +44,13 @@ impl Variables {
             Some(value) => *value,
             None => 0,
         }
+    }
+
+    /// The difference of two variables, cut to 32 bits.
+    pub fn difference(&self, y: u8, z: u8) -> i32
+        ensures { result ≡ difference (value self.now.values y) (value self.now.values z) }
+    {
+        self.get(y).wrapping_sub(self.get(z))
     }
 
     /// Gives a variable a value; nothing changes where there is none of that number.

@@ -7,6 +7,7 @@
 mod blocks;
 mod decoding;
 mod entries;
+pub mod entry_point;
 mod fault;
 mod few;
 mod flaws;
@@ -20,6 +21,7 @@ mod variables;
 
 pub use blocks::BlockFault;
 pub use decoding::decode;
+pub use entry_point::Main;
 pub use fault::TableFault;
 pub use lookup::{Entry, find};
 pub use names::NameFault;

@@ -1,9 +1,10 @@
 ghost use Rattle.std.specs.Prelude.{◌≡◌, ◌<◌, ◌≤◌, [], length, None, slice_set};
-ghost use Rattle.direct.specs.Machines.{state_of, Called, Resumed, Unwound};
+ghost use Rattle.direct.specs.Machines.{state_of, entered, Called, Resumed, Unwound};
 ghost use Rattle.language.specs.Runs.{variable_count, with_arguments, onward};
 
 use super::super::frame::Frame;
 use super::super::frames::Frames;
+use super::super::link::Target;
 use super::super::variables::Variables;
 use super::Machine;
 use language::Handler;
@@ -38,6 +39,14 @@ impl Machine {
     {
         self.at = at;
         self.handler = handler;
+    }
+
+    /// Goes on where a jump leads.
+    pub fn enter(&mut self, target: Target)
+        ensures { state_of self.new ≡ entered (state_of self.old) target.at target.handler }
+    {
+        self.at = target.at;
+        self.handler = target.handler;
     }
 
     /// Saves a frame, and goes on in a routine at its first instruction, which has no handler yet; or

@@ -2,8 +2,10 @@ ghost use Rattle.std.specs.Prelude.{◌≡◌};
 ghost use Rattle.language.specs.Lines.{routine_place, block_place};
 ghost use Rattle.language.specs.WellFormed.{WellFormed};
 ghost use Rattle.table.specs.Checked.{records_of};
+ghost use Rattle.table.specs.Mains.{StartsWith};
 
-use super::super::entries::{block_at, routine_at};
+use super::super::entries::{block_at, find_routine, routine_at};
+use super::super::entry_point::Main;
 use super::Table;
 use language::Record;
 
@@ -21,6 +23,21 @@ impl Table {
         ensures { result ≡ routine_place (records_of self.now) identifier }
     {
         routine_at(self.routines.as_slice(), identifier)
+    }
+
+    /// The routine that a run starts with, routine 0.
+    pub fn main(&self) -> Main
+        ensures { StartsWith (records_of self.now) result }
+    {
+        let routines = self.routines.as_slice();
+        let Some(at) = find_routine(routines, 0) else {
+            unreachable()
+        };
+        let entry = routines[at];
+        Main {
+            place: entry.place,
+            parameters: entry.parameters,
+        }
     }
 
     /// The place of the heading of a block of a routine, if it is there.

@@ -1,0 +1,115 @@
+//! The names in a table, looked up once for each record.
+
+ghost use Rattle.std.specs.Prelude.{◌≡◌, ◌<◌, length, Some};
+ghost use Rattle.std.specs.List.{slice_get};
+ghost use Rattle.direct.specs.Links.{own_handler_of, Leads, EntersAt, LinkedBy, HandledBy, Linked};
+ghost use Rattle.table.specs.Checked.{records_of};
+
+use super::link::{Link, Target};
+use language::{Handler, Instruction, Record};
+use scopes::Scope;
+use table::Table;
+
+/// The links of a table's records.
+pub fn link_table(table: &Table) -> [Link; 256]
+    ensures { Linked (records_of table.now) result }
+{
+    let mut links = [Link::NONE; 256];
+    let mut scope = Scope::nowhere();
+    for (place, next) in table.records().iter().enumerate() {
+        scope = scope.at(*next);
+        links[place] = link(table, scope, *next);
+    }
+    links
+}
+
+/// The link of one record.
+fn link(table: &Table, scope: Scope, next: Record) -> Link
+    ensures names { LinkedBy (records_of table.now) scope.routine next result }
+    ensures handler { HandledBy (records_of table.now) scope.routine scope.handler result.handler }
+{
+    let handler = handler_target(table, scope);
+    let routine = scope.routine;
+    match next {
+        Record::Body(Instruction::Goto { label }) => Link {
+            goes: block_target(table, routine, label),
+            otherwise: Target::NOWHERE,
+            handler,
+        },
+        Record::Body(
+            Instruction::Branch {
+                then,
+                otherwise,
+                ..
+            },
+        ) => Link {
+            goes: block_target(table, routine, then),
+            otherwise: block_target(table, routine, otherwise),
+            handler,
+        },
+        Record::Body(Instruction::Call { routine, .. }) => Link {
+            goes: routine_target(table, routine),
+            otherwise: Target::NOWHERE,
+            handler,
+        },
+        _ => Link {
+            goes: Target::NOWHERE,
+            otherwise: Target::NOWHERE,
+            handler,
+        },
+    }
+}
+
+/// Where the handler of a block leads.
+fn handler_target(table: &Table, scope: Scope) -> Target
+    ensures { HandledBy (records_of table.now) scope.routine scope.handler result }
+{
+    match scope.handler {
+        Some(handler) => block_target(table, scope.routine, handler.label),
+        None => Target::NOWHERE,
+    }
+}
+
+/// Where a jump to a block leads.
+fn block_target(table: &Table, routine: u8, label: u8) -> Target
+    ensures { Leads (records_of table.now) routine label result }
+{
+    match table.block(routine, label) {
+        Some(place) => Target {
+            at: place as u16 + 1,
+            handler: own_handler(record_at(table, place)),
+        },
+        None => Target::NOWHERE,
+    }
+}
+
+/// The handler of the block that a record heads.
+fn own_handler(heading: Record) -> Option<Handler>
+    ensures { result ≡ own_handler_of heading }
+{
+    match heading {
+        Record::Block { handler, .. } => handler,
+        _ => None,
+    }
+}
+
+/// Where a call of a routine leads.
+fn routine_target(table: &Table, identifier: u8) -> Target
+    ensures { EntersAt (records_of table.now) identifier result }
+{
+    match table.routine(identifier) {
+        Some(place) => Target {
+            at: place as u16 + 1,
+            handler: None,
+        },
+        None => Target::NOWHERE,
+    }
+}
+
+/// The record at a place.
+pub fn record_at(table: &Table, place: usize) -> Record
+    requires { place < length (records_of table.now) }
+    ensures { slice_get (records_of table.now) place ≡ Some result }
+{
+    table.records()[place]
+}
