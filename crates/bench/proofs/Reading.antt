@@ -1,5 +1,5 @@
 -- Reading an angle twice under one shift gives it back.
-use Rattle.std.proofs.Common.{◌≡◌, ℕ, ◌<◌, sym, refl, ap, ◌∙◌, subst, arith}
+use Rattle.std.proofs.Common.{◌≡◌, ℕ, ◌<◌, ap, subst, arith}
 use native.Mathlib.Bridge.{le_prop}
 use Rattle.bench.specs.Bounds.{full_turn}
 use Rattle.bench.specs.Ranges.{to_angle}

@@ -1,5 +1,5 @@
 -- The rules and their function agree; so each request has exactly one response.
-use Rattle.std.proofs.Common.{◌≡◌, ℕ, zero, suc, ◌<◌, ◌≤◌, get_or, ℤ, pos, negsuc, Some, None, Ok, Err, Option, Result, sym, refl, ap, ◌∙◌, subst, inl, inr, arith}
+use Rattle.std.proofs.Common.{◌≡◌, ℕ, zero, suc, ◌<◌, ◌≤◌, get_or, ℤ, pos, negsuc, Err, Option, sym, refl, ap, ◌∙◌, subst, inl, inr, arith}
 use Rattle.std.proofs.lemmas.Int.{ints}
 use Rattle.bench.specs.Bounds.{site_count, feeder_count, full_turn}
 use Rattle.bench.specs.Ranges.{Outside, ranged, to_site, to_angle, to_feeder, site_at, angle_at, feeder_at}
@@ -9,7 +9,7 @@ use Rattle.bench.specs.Responds.{Answer, Responds}
 use Rattle.bench.specs.Responds.Responds.{moves, moves_nowhere, turns, turns_nowhere, picks, picks_nowhere, picks_twice, picks_none, places, places_none, places_twice, looks, looks_nowhere, drops, drops_none, unknown}
 use Rattle.bench.specs.Laws.{OneResponse, RespondResponds, FaultKeeps}
 use Rattle.bench.specs.declared.action.Action.{Action}
-use Rattle.bench.specs.declared.action.Action.TheVariants.{Move, Turn, Pick, Place, Look, Discard}
+use Rattle.bench.specs.declared.action.Action.TheVariants.{Move, Turn, Pick, Look}
 use Rattle.bench.specs.declared.fault.Fault.{Fault}
 use Rattle.bench.specs.declared.fault.Fault.TheVariants.{NoOperation, NoSite, NoAngle, NoFeeder}
 use Rattle.bench.specs.declared.angle.Angle.{Angle}

@@ -5,7 +5,7 @@ use Rattle.std.proofs.lemmas.Int.{ints}
 use Rattle.std.proofs.lemmas.Bool.{cases_lt}
 use Rattle.bench.specs.Bounds.{feeder_count, most_in_feeder, full_turn}
 use Rattle.bench.specs.Laws.{OneSetUp, OneTurn}
-use Rattle.bench.specs.Ranges.{Outside, ranged, to_angle, angle_at}
+use Rattle.bench.specs.Ranges.{Outside, to_angle, angle_at}
 use Rattle.bench.specs.SetUps.{SetsUp, TurnsBy}
 use Rattle.bench.specs.SetUps.SetsUp.{taken_over, refused}
 use Rattle.bench.specs.SetUps.TurnsBy.{shifted, refused as unturned}

@@ -1,17 +1,16 @@
 -- A request leaves a valid state valid, and a new bench is valid.
-use Rattle.std.proofs.Common.{◌≡◌, ℕ, suc, ◌+◌, ◌*◌, ◌<◌, ◌≤◌, ◌⊎◌, List, length, get_or, set, replicate, ℤ, sum_by, sum, sym, refl, ap, ◌∙◌, subst, inl, inr, arith}
+use Rattle.std.proofs.Common.{◌≡◌, ℕ, suc, ◌*◌, ◌<◌, ◌≤◌, List, length, get_or, set, replicate, ℤ, sym, refl, ap, ◌∙◌, subst, inl, inr, arith}
 use native.Mathlib.Bridge.{le_prop}
 use Rattle.std.proofs.ByRecursion.{All-from_get_or, sum_by_le}
 use Rattle.std.proofs.lemmas.List.{length-set, get_or-set_same, get_or-set_other}
 use Rattle.std.proofs.lemmas.List.Sums.{sum_by-set}
 use Rattle.std.proofs.lemmas.Bool.{cases_eq}
-use Rattle.bench.specs.Bounds.{site_count, feeder_count, most_in_feeder, most_parts, full_turn}
+use Rattle.bench.specs.Bounds.{site_count, feeder_count, most_in_feeder, full_turn}
 use Rattle.bench.specs.Ranges.{to_site, to_angle}
 use Rattle.bench.specs.Laws.{StaysValid}
 use Rattle.bench.specs.Respond.{respond}
-use Rattle.bench.specs.Responds.{Responds}
 use Rattle.bench.specs.Responds.Responds.{moves, moves_nowhere, turns, turns_nowhere, picks, picks_nowhere, picks_twice, picks_none, places, places_none, places_twice, looks, looks_nowhere, drops, drops_none, unknown}
-use Rattle.bench.specs.States.{Valid, in_nozzle, on_spot, fresh, at_site, at_angle, picked, placed, dropped}
+use Rattle.bench.specs.States.{Valid, in_nozzle, on_spot, fresh, picked, placed, dropped}
 use Rattle.bench.specs.declared.feeder.Feeder.{Feeder}
 use Rattle.bench.specs.declared.nozzle.Nozzle.TheVariants.{Empty, Holding}
 use Rattle.bench.specs.declared.spot.Spot.TheVariants.{Free, Taken}

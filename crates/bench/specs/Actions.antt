@@ -1,6 +1,5 @@
 -- What a request asks for, by its operation and its number.
 use Rattle.std.specs.Prelude.{ℕ, zero, suc, ℤ, pos, negsuc, Some, None, Ok, Err, Option, Result}
-use Rattle.std.specs.Option.{ok_or}
 use Rattle.bench.specs.Ranges.{site_at, angle_at, feeder_at}
 use Rattle.bench.specs.declared.action.Action.{Action}
 use Rattle.bench.specs.declared.action.Action.TheVariants.{Move, Turn, Pick, Place, Look, Discard}

@@ -1,6 +1,6 @@
 -- The request rules once more, as a function, by which contracts state an answer as an equation.
 -- A theorem ties it to the rules: see Laws.
-use Rattle.std.specs.Prelude.{◌≡◌, ℕ, zero, suc, ℤ, pos, Ok, Err, Result, slice_index, slice_index_or}
+use Rattle.std.specs.Prelude.{ℕ, zero, suc, ℤ, pos, Ok, Err, Result, slice_index, slice_index_or}
 use Rattle.bench.specs.Actions.{action_of}
 use Rattle.bench.specs.Responds.{Answer}
 use Rattle.bench.specs.Sight.{sight}

@@ -1,7 +1,7 @@
 -- The state that a bench stands for, and when it is valid. The record itself is the code's `State`:
 -- a site, an angle, a nozzle, a list of counts, the parts dropped, and a list of spots. Sites, angles
 -- and feeders are in range by their types.
-use Rattle.std.specs.Prelude.{◌≡◌, ℕ, zero, ◌+◌, ◌<◌, ◌≤◌, List, length, replicate, sum_by, sum, slice_index, slice_set}
+use Rattle.std.specs.Prelude.{◌≡◌, ℕ, ◌+◌, ◌<◌, ◌≤◌, List, length, replicate, sum_by, sum, slice_index, slice_set}
 use Rattle.std.proofs.Common.{arith}
 use Rattle.bench.specs.Bounds.{site_count, feeder_count, most_in_feeder, most_parts}
 use Rattle.bench.specs.Ranges.{to_site, to_angle}

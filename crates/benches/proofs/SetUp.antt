@@ -1,10 +1,10 @@
 -- Set-up: counts that were all in range are those of the new bench.
-use Rattle.std.proofs.Common.{◌≡◌, ℕ, ◌<◌, ◌≤◌, List, map, length, get_or, replicate, ℤ, pos, Result, sym, refl, ap, ◌∙◌, subst, arith}
+use Rattle.std.proofs.Common.{◌≡◌, ℕ, ◌<◌, List, map, length, get_or, replicate, ℤ, pos, Result, sym, refl, ap, ◌∙◌, arith}
 use Rattle.std.proofs.lemmas.List.{same_lists, length-map, get_or-map, get_or_default, get_or-replicate}
-use Rattle.bench.specs.Bounds.{feeder_count, most_in_feeder, most_parts}
+use Rattle.bench.specs.Bounds.{feeder_count}
 use Rattle.bench.specs.SetUps.{SetsUp}
 use Rattle.bench.specs.SetUps.SetsUp.{taken_over, refused}
-use Rattle.bench.specs.States.{Valid, parts, fresh}
+use Rattle.bench.specs.States.{Valid}
 use Rattle.bench.specs.declared.refusal.SetUpRefusal.{SetUpRefusal}
 use Rattle.bench.specs.declared.state.State.{State}
 use Rattle.bench.proofs.Validity.{fresh_valid}

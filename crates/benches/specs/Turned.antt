@@ -1,5 +1,5 @@
 -- Every rule holds of a state read under a shift as it holds of the state below.
-use Rattle.std.specs.Prelude.{◌≡◌, ℕ, zero, suc, ◌+◌, ◌*◌, ◌/◌, ◌%◌, ◌<◌, List, [], ◌∷◌, map, length, ℤ, pos, negsuc, ◌+ℤ◌, ◌*ℤ◌, ◌<ℤ◌, Some, None, Ok, Err, sum_by, Option, ◌≢◌, int_div, int_rem, slice_index, slice_index_or, unsigned_abs, refl}
+use Rattle.std.specs.Prelude.{◌≡◌, ℕ, zero, suc, ◌+◌, ◌*◌, ◌/◌, ◌%◌, ◌<◌, List, [], ◌∷◌, map, ℤ, pos, ◌+ℤ◌, ◌*ℤ◌, ◌<ℤ◌, Some, None, Ok, Err, sum_by, ◌≢◌, int_div, int_rem, slice_index, slice_index_or, unsigned_abs, refl}
 use Rattle.std.proofs.Common.{sym, ap, subst, ◌∙◌, arith, inl, inr}
 use Rattle.std.proofs.Math.Bridge.{le_prop}
 use Rattle.std.proofs.Math.ListN.{get_or-map}
@@ -7,7 +7,7 @@ use Rattle.std.proofs.lemmas.List.{length-map, map-set}
 use Rattle.std.proofs.lemmas.Int.{ints}
 use Rattle.std.proofs.lemmas.List.Sums.{sum_by-cons}
 use Rattle.bench.specs.Actions.{action_of}
-use Rattle.bench.specs.Bounds.{site_count, feeder_count, full_turn}
+use Rattle.bench.specs.Bounds.{feeder_count, full_turn}
 use Rattle.bench.specs.Ranges.{angle_at, to_angle}
 use Rattle.bench.specs.Reading.{reading, read_under, spot_under, state_under}
 use Rattle.bench.specs.Respond.{Outcome, pick_into, place_on, drop_from, perform, attempt, respond}

@@ -1,5 +1,5 @@
 -- The steps that belong to a beat are fixed by the state and the instruction.
-use Rattle.std.proofs.Common.{◌≡◌, ℕ, ◌+◌, ◌<◌, ◌≤◌, Bool, true, false, cond, ltb, List, [], ◌∷◌, length, ℤ, pos, Some, None, Ok, Err, Option, sym, refl, ap, ◌∙◌, subst}
+use Rattle.std.proofs.Common.{◌≡◌, ℕ, ◌+◌, cond, ltb, List, length, ℤ, pos, Some, None, Ok, Err, Option, sym, ap, ◌∙◌}
 use Rattle.std.specs.List.{slice_get}
 use Rattle.std.proofs.lemmas.Bool.{lt-ltb, le-ltb}
 use Rattle.bench.specs.Respond.{Outcome, respond}
@@ -7,8 +7,8 @@ use Rattle.bench.specs.Responds.{Answer}
 use Rattle.bench.specs.declared.state.State.{State as Standing}
 use Rattle.bench.proofs.Rules.{by_rule}
 use Rattle.language.specs.Beats.{Raises, own, frames, nobody, Beat, constant, move, subtract, request, fault, call, exhaust, goto, return, finish, branch, branch_not, raise, raise_steps, fault_steps, steps}
-use Rattle.language.specs.Lines.{routine_place, Heads, Enters}
-use Rattle.language.specs.Runs.{frame_count, Frame, State, Run, value, Catcher, catcher}
+use Rattle.language.specs.Lines.{routine_place}
+use Rattle.language.specs.Runs.{frame_count, State, Run, value, Catcher, catcher}
 use Rattle.language.specs.declared.handler.Handler.{Handler}
 use Rattle.language.specs.declared.instruction.Instruction.{Instruction}
 use Rattle.language.specs.declared.instruction.Instruction.TheVariants.{Constant, Move, Difference, Request, Call, Goto, Return, Branch, Raise}

@@ -1,14 +1,13 @@
 -- The blocks of a table are as they should be exactly where no cause of layer 2 stands.
-use Rattle.std.proofs.Common.{◌≡◌, ℕ, zero, suc, ◌<◌, ◌≤◌, Bool, true, false, List, [], ◌∷◌, length, Some, None, Option, sym, refl, ap, ◌∙◌}
+use Rattle.std.proofs.Common.{◌≡◌, ℕ, suc, ◌<◌, Bool, true, false, List, length, Some, None, Option, refl}
 use Rattle.std.specs.List.{slice_get}
-use Rattle.language.specs.declared.cause.BlockCause.{BlockCause}
 use Rattle.language.specs.declared.cause.BlockCause.TheVariants.{Headless, Unclosed, Trailing, Crowded}
 use Rattle.language.specs.declared.instruction.Instruction.{Instruction}
 use Rattle.language.specs.declared.record.Record.{Record}
 use Rattle.language.specs.declared.record.Record.TheVariants.{Routine, Block, Body}
 use Rattle.language.specs.Forms.{closes, is_routine, is_block, is_heading}
 use Rattle.language.specs.WellFormed.{Blocked}
-use Rattle.language.specs.Causes.{InBlocks, headless, unclosed, open_end, trailing, crowded_routine, crowded_block}
+use Rattle.language.specs.Causes.{headless, unclosed, open_end, trailing, crowded_routine, crowded_block}
 use Rattle.language.specs.Refusals.{BlocksClear}
 use Rattle.language.proofs.Lists.{clash, nth_some}
 use Rattle.language.proofs.Counts.{count_within, count_met}

@@ -1,23 +1,21 @@
 -- The bytes of records in range: eight each, free of every cause of layer 1, and no two records alike.
-use Rattle.std.proofs.Common.{◌≡◌, ℕ, zero, suc, ◌+◌, ◌*◌, ◌/◌, ◌%◌, ◌^◌, ◌<◌, ◌≤◌, Bool, true, false, cond, eqb, ◌⊎◌, List, [], ◌∷◌, ◌++◌, map, length, get_or, take, drop, ℤ, Some, None, Option, sym, refl, ap, ◌∙◌, subst, inl, inr, arith, length-append, w32, SFits, to_z, of_z, rules}
+use Rattle.std.proofs.Common.{◌≡◌, ℕ, zero, suc, ◌+◌, ◌*◌, ◌/◌, ◌%◌, ◌^◌, ◌<◌, cond, eqb, List, [], ◌∷◌, ◌++◌, map, length, take, drop, ℤ, Some, None, Option, sym, refl, ap, ◌∙◌, subst, inl, inr, arith, length-append, w32, to_z, of_z, rules}
 use native.Mathlib.Nat.{div-div-eq-div-mul}
 use mir.Facts.{Fits-of_z}
 use Rattle.std.specs.List.{slice_get, AllByRecursion, flat_map}
 use Rattle.std.specs.Simd.{first_chunks}
 use Rattle.std.proofs.lemmas.List.{drop_at, take_at}
 use Rattle.std.proofs.lemmas.Int.{to_z-of_z}
-use Rattle.language.specs.declared.cause.RecordCause.{RecordCause}
 use Rattle.language.specs.declared.handler.Handler.{Handler}
-use Rattle.language.specs.declared.instruction.Instruction.{Instruction}
 use Rattle.language.specs.declared.instruction.Instruction.TheVariants.{Constant, Move, Difference, Request, Call, Goto, Return, Branch, Raise}
 use Rattle.language.specs.declared.record.Record.{Record}
 use Rattle.language.specs.declared.record.Record.TheVariants.{Routine, Block, Body}
-use Rattle.language.specs.Bytes.{four_bytes, encode, bytes, Spare, InRange}
+use Rattle.language.specs.Bytes.{encode, bytes, InRange}
 use Rattle.language.specs.Rows.{rows, byte, Whole, Known, Within, Clean}
 use Rattle.language.specs.WellFormed.{Legible, Holds}
-use Rattle.language.specs.Causes.{InRecords, bad_length, bad_letter, bad_range, bad_padding}
+use Rattle.language.specs.Causes.{bad_length, bad_letter, bad_range, bad_padding}
 use Rattle.language.specs.Refusals.{RecordsClear}
-use Rattle.language.proofs.Lists.{clash, nth_below, nth_some, all_nth}
+use Rattle.language.proofs.Lists.{clash, all_nth}
 
 pub length-encode : (x : Record) → InRange x → length (encode x) ≡ 8
 length-encode (Routine i p q) f = refl

@@ -1,7 +1,7 @@
 -- How the lines of a table follow each other, and where the names in a well-formed table lead.
-use Rattle.std.proofs.Common.{◌≡◌, ℕ, zero, suc, ◌+◌, true, false, ◌⊎◌, List, [], ◌∷◌, Some, None, Option, sym, refl, ap, ◌∙◌, subst, inl, inr}
+use Rattle.std.proofs.Common.{◌≡◌, ℕ, zero, suc, ◌+◌, false, ◌⊎◌, List, [], ◌∷◌, Some, None, Option, refl, ap, ◌∙◌, subst, inl, inr}
 use Rattle.std.specs.List.{slice_get}
-use Rattle.language.specs.Forms.{closes, labels}
+use Rattle.language.specs.Forms.{closes}
 use Rattle.language.specs.Lines.{Line, line, lines_after, lines, heads_block, Heads, Enters}
 use Rattle.language.specs.Reachable.{Stands}
 use Rattle.language.specs.WellFormed.{WellFormed, HasBlock}

@@ -1,5 +1,5 @@
 -- Which frame takes what is raised.
-use Rattle.std.proofs.Common.{◌≡◌, ℕ, ◌<◌, List, [], ◌∷◌, length, Some, None, Option, sym, refl, ap, ◌∙◌, subst, arith}
+use Rattle.std.proofs.Common.{◌≡◌, ◌<◌, List, [], ◌∷◌, length, Some, None, Option, refl, subst, arith}
 use Rattle.language.specs.Reachable.{Resumes, Resumed}
 use Rattle.language.specs.Runs.{Frame, Catcher, or_catcher, catcher}
 use Rattle.language.specs.declared.handler.Handler.{Handler}

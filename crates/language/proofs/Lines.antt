@@ -1,11 +1,11 @@
 -- What the lines of a table say of its records.
-use Rattle.std.proofs.Common.{◌≡◌, ℕ, zero, suc, ◌+◌, Bool, true, false, ◌&&◌, eqb, List, [], ◌∷◌, length, take, Some, None, Option, sym, refl, ap, ◌∙◌}
+use Rattle.std.proofs.Common.{◌≡◌, ℕ, zero, suc, ◌+◌, true, eqb, List, [], ◌∷◌, length, Some, None, Option, refl, ap}
 use Rattle.std.specs.List.{slice_get}
 use Rattle.std.proofs.lemmas.Bool.{eqb-true, eq-eqb, and_parts, and_from}
 use Rattle.language.specs.declared.handler.Handler.{Handler}
 use Rattle.language.specs.declared.record.Record.{Record}
 use Rattle.language.specs.declared.record.Record.TheVariants.{Routine, Block, Body}
-use Rattle.language.specs.Lines.{Line, line, lines, lines_after, heads_routine, heads_block}
+use Rattle.language.specs.Lines.{Line, line, lines_after, heads_routine, heads_block}
 use Rattle.language.proofs.Lists.{clash}
 
 -- the record of a line

@@ -1,18 +1,17 @@
 -- The names of a table are as they should be exactly where no cause of layer 3 stands.
-use Rattle.std.proofs.Common.{◌≡◌, ℕ, zero, suc, ◌<◌, ◌≤◌, Bool, true, false, ◌⊎◌, List, [], ◌∷◌, length, Some, None, Option, sym, refl, ap, ◌∙◌, inl, inr, arith}
-use Rattle.std.specs.List.{slice_get, AllByRecursion}
+use Rattle.std.proofs.Common.{◌≡◌, ℕ, ◌<◌, ◌≤◌, ◌⊎◌, List, [], ◌∷◌, length, Some, None, Option, sym, refl, inl, inr, arith}
+use Rattle.std.specs.List.{slice_get}
 use Rattle.std.proofs.lemmas.Bool.{cases_lt, cases_eq, cases_order}
-use Rattle.language.specs.declared.cause.NameCause.{NameCause}
 use Rattle.language.specs.declared.cause.NameCause.TheVariants.{RepeatedRoutine, RepeatedBlock, NoMain, NoVariable, NoBlock, NoRoutine, ArgumentCount}
 use Rattle.language.specs.declared.handler.Handler.{Handler}
 use Rattle.language.specs.declared.record.Record.{Record}
-use Rattle.language.specs.declared.record.Record.TheVariants.{Routine, Block, Body}
+use Rattle.language.specs.declared.record.Record.TheVariants.{Routine, Block}
 use Rattle.language.specs.Forms.{variables, labels, Called, called, calls}
-use Rattle.language.specs.Lines.{Line, line, lines, heads_routine, heads_block, routine_place, block_place, Enters, Heads}
+use Rattle.language.specs.Lines.{Line, line, lines, heads_routine, heads_block, routine_place, block_place, Enters}
 use Rattle.language.specs.WellFormed.{HasBlock, HasRoutine, Callable, Named}
-use Rattle.language.specs.Causes.{Any, Absent, Miscounted, InNames, repeated_routine, repeated_block, no_main, no_variable, no_block, no_routine, argument_count}
+use Rattle.language.specs.Causes.{Any, Absent, Miscounted, repeated_routine, repeated_block, no_main, no_variable, no_block, no_routine, argument_count}
 use Rattle.language.specs.Refusals.{NamesClear}
-use Rattle.language.proofs.Lists.{clash, nth_some, place_in, all_since, any_all}
+use Rattle.language.proofs.Lists.{clash, place_in, all_since, any_all}
 use Rattle.language.proofs.Lines.{line_record, record_line, routine_of, BlockOf, block_of}
 
 module _ (t : List Record) where

@@ -10,9 +10,8 @@ use Rattle.language.specs.declared.cause.NameCause.{NameCause}
 use Rattle.language.specs.declared.record.Record.{Record}
 use Rattle.language.specs.Lines.{lines}
 use Rattle.language.specs.Rows.{rows, Whole}
-use Rattle.language.specs.WellFormed.{Holds}
-use Rattle.language.specs.Causes.{record_number_of, InRecords, bad_length, bad_letter, bad_range, bad_padding, InBlocks, headless, unclosed, open_end, trailing, crowded_routine, crowded_block, InNames, repeated_routine, repeated_block, no_main, no_variable, no_block, no_routine, argument_count}
-use Rattle.language.specs.Refusals.{First, Refused, by_records, by_blocks, by_names}
+use Rattle.language.specs.Causes.{InRecords, bad_length, bad_letter, bad_range, bad_padding, InBlocks, headless, unclosed, open_end, trailing, crowded_routine, crowded_block, InNames, repeated_routine, repeated_block, no_main, no_variable, no_block, no_routine, argument_count}
+use Rattle.language.specs.Refusals.{Refused, by_records, by_blocks, by_names}
 use Rattle.language.proofs.Lists.{nth_below}
 use Rattle.language.proofs.Lines.{length-lines}
 

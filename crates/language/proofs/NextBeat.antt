@@ -1,6 +1,6 @@
 -- The rules of a beat: of a state that a run can reach one fits, and never more than one; and what a
 -- beat leaves can be reached.
-use Rattle.std.proofs.Common.{◌≡◌, ℕ, zero, suc, ◌+◌, ◌<◌, ◌≤◌, Bool, true, false, cond, ltb, ◌⊎◌, List, [], ◌∷◌, map, length, take, set, ℤ, pos, Some, None, Ok, Err, Option, sym, refl, ap, ◌∙◌, subst, inl, inr, arith}
+use Rattle.std.proofs.Common.{◌≡◌, ℕ, ◌+◌, ◌<◌, ◌≤◌, Bool, true, false, cond, ltb, ◌⊎◌, List, [], ◌∷◌, map, length, take, set, ℤ, pos, Some, None, Ok, Err, Option, sym, refl, ap, ◌∙◌, subst, inl, inr, arith}
 use lib.Signed.{le_z}
 use Rattle.std.specs.List.{slice_get}
 use Rattle.std.proofs.lemmas.Bool.{lt-ltb, le-ltb, cases_lt}
@@ -10,9 +10,9 @@ use Rattle.bench.specs.Responds.{Answer, Responds}
 use Rattle.bench.specs.declared.state.State.{State as Standing}
 use Rattle.bench.proofs.Rules.{by_rule, respond_responds}
 use Rattle.language.specs.BeatLaws.{OneBeat, StaysReachable, FewSteps}
-use Rattle.language.specs.Beats.{Raises, own, frames, nobody, Beat, constant, move, subtract, request, fault, call, exhaust, goto, return, finish, branch, branch_not, raise, raise_steps, fault_steps, steps}
+use Rattle.language.specs.Beats.{Raises, own, frames, nobody, Beat, constant, move, subtract, request, fault, call, exhaust, goto, return, finish, branch, branch_not, raise, raise_steps, fault_steps}
 use Rattle.language.specs.Forms.{closing}
-use Rattle.language.specs.Lines.{line, lines, routine_place, block_place, Heads, Enters}
+use Rattle.language.specs.Lines.{line, lines, routine_place, block_place, Heads}
 use Rattle.language.specs.Reachable.{Stands, Resumed, Reachable, ReachableRun}
 use Rattle.language.specs.Runs.{frame_count, Frame, State, Run, running, ended, value, difference, onward, into, called_into, returned_to, Catcher, catcher, caught}
 use Rattle.language.specs.WellFormed.{WellFormed, HasBlock, HasRoutine}
@@ -23,9 +23,9 @@ use Rattle.language.specs.declared.instruction.Instruction.TheVariants.{Constant
 use Rattle.language.specs.declared.record.Record.{Record}
 use Rattle.language.specs.declared.record.Record.TheVariants.{Routine, Block, Body}
 use Rattle.language.proofs.Flow.{flows, handled, block_stands, routine_stands}
-use Rattle.language.proofs.Frames.{Catches, catches}
+use Rattle.language.proofs.Frames.{catches}
 use Rattle.language.proofs.Lines.{line_record}
-use Rattle.language.proofs.Lists.{clash, all_nth}
+use Rattle.language.proofs.Lists.{all_nth}
 
 module _ (t : List Record) where
   -- where each record leads, as a function; where no rule fits it says something that does not matter

@@ -1,11 +1,11 @@
 -- At most one refusal fits some bytes, and none those of a well-formed table.
-use Rattle.std.proofs.Common.{◌≡◌, ℕ, ◌<◌, ◌⊎◌, List, sym, refl, ap, ◌∙◌, subst, inl, inr, arith}
+use Rattle.std.proofs.Common.{◌≡◌, ℕ, ◌<◌, ◌⊎◌, List, sym, refl, ◌∙◌, subst, inl, inr}
 use Rattle.std.proofs.lemmas.Bool.{cases_order}
 use Rattle.language.specs.declared.record.Record.{Record}
 use Rattle.language.specs.Bytes.{bytes}
 use Rattle.language.specs.WellFormed.{Legible, WellFormed, Holds, WellFormedBytes}
 use Rattle.language.specs.Causes.{record_number_of, block_number_of, name_number_of, InRecords, InBlocks, InNames}
-use Rattle.language.specs.Refusals.{Clear, First, RecordsClear, BlocksClear, NamesClear, Refused, by_records, by_blocks, by_names}
+use Rattle.language.specs.Refusals.{First, RecordsClear, BlocksClear, NamesClear, Refused, by_records, by_blocks, by_names}
 use Rattle.language.proofs.Blocks as B
 use Rattle.language.proofs.Names as N
 use Rattle.language.proofs.Bytes as Y

@@ -1,5 +1,5 @@
 -- What is claimed of the rules of a beat.
-use Rattle.std.specs.Prelude.{◌≡◌, ℕ, ◌≤◌, List}
+use Rattle.std.specs.Prelude.{◌≤◌, List}
 use Rattle.bench.specs.Laws.{ExactlyOne}
 use Rattle.bench.specs.declared.state.State.{State as Standing}
 use Rattle.language.specs.Beats.{Beat, steps}

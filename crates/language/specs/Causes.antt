@@ -10,7 +10,7 @@ use Rattle.language.specs.declared.cause.NameCause.{NameCause}
 use Rattle.language.specs.declared.cause.NameCause.TheVariants.{RepeatedRoutine, RepeatedBlock, NoMain, NoVariable, NoBlock, NoRoutine, ArgumentCount}
 use Rattle.language.specs.declared.handler.Handler.{Handler}
 use Rattle.language.specs.declared.record.Record.{Record}
-use Rattle.language.specs.declared.record.Record.TheVariants.{Routine, Block, Body}
+use Rattle.language.specs.declared.record.Record.TheVariants.{Routine, Block}
 use Rattle.language.specs.Forms.{closes, is_routine, is_block, is_heading, variables, labels, Called, called, calls}
 use Rattle.language.specs.Lines.{line, lines, routine_place, block_place, Enters}
 use Rattle.language.specs.Rows.{rows, Whole, Known, Within, Clean}

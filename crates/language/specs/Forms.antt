@@ -1,6 +1,5 @@
 -- What a record is to the blocks around it, and which names stand in it.
-use Rattle.std.specs.Prelude.{ℕ, Bool, true, false, List, [], ◌∷◌, take, Some, None, Option}
-use Rattle.language.specs.declared.handler.Handler.{Handler}
+use Rattle.std.specs.Prelude.{ℕ, Bool, true, false, List, [], ◌∷◌, take, Some, None}
 use Rattle.language.specs.declared.instruction.Instruction.{Instruction}
 use Rattle.language.specs.declared.instruction.Instruction.TheVariants.{Constant, Move, Difference, Request, Call, Goto, Return, Branch, Raise}
 use Rattle.language.specs.declared.record.Record.{Record}

@@ -1,5 +1,5 @@
 -- Which refusal fits a table: the first cause of the lowest layer that has one.
-use Rattle.std.specs.Prelude.{◌≡◌, ℕ, ◌<◌, List}
+use Rattle.std.specs.Prelude.{ℕ, ◌<◌, List}
 use Rattle.language.specs.declared.cause.RecordCause.{RecordCause}
 use Rattle.language.specs.declared.cause.BlockCause.{BlockCause}
 use Rattle.language.specs.declared.cause.NameCause.{NameCause}

@@ -1,5 +1,5 @@
 -- A run of a routine from its table: its state between two beats, and what a run is.
-use Rattle.std.specs.Prelude.{◌≡◌, ℕ, suc, ◌-◌, List, [], ◌∷◌, ◌++◌, length, replicate, ℤ, pos, ◌-ℤ◌, Some, None, Option, slice_index_or, slice_set}
+use Rattle.std.specs.Prelude.{ℕ, suc, ◌-◌, List, [], ◌∷◌, ◌++◌, length, replicate, ℤ, pos, ◌-ℤ◌, Some, None, Option, slice_index_or, slice_set}
 use Rattle.std.specs.Int.{int_wrap, w32}
 use Rattle.language.specs.declared.ending.Ending.{Ending}
 use Rattle.language.specs.declared.handler.Handler.{Handler}

@@ -1,5 +1,5 @@
 -- When a table is well formed, in three parts: its records by themselves, its blocks, its names.
-use Rattle.std.specs.Prelude.{◌≡◌, ℕ, suc, ◌<◌, ◌≤◌, true, false, List, length, Some, None, count_by, Option}
+use Rattle.std.specs.Prelude.{◌≡◌, ℕ, suc, ◌<◌, ◌≤◌, true, false, List, length, Some, count_by, Option}
 use Rattle.std.specs.List.{slice_get, AllByRecursion}
 use Rattle.language.specs.declared.handler.Handler.{Handler}
 use Rattle.language.specs.declared.instruction.Instruction.{Instruction}

@@ -1,11 +1,11 @@
 -- What one turn of a lookup keeps, and what its ends give.
-use Rattle.std.proofs.Common.{◌≡◌, ℕ, ◌+◌, ◌<◌, ◌≤◌, Bool, true, false, ◌⊎◌, List, length, get_or, Some, None, Option, refl, ap, subst, inl, inr, arith}
+use Rattle.std.proofs.Common.{◌≡◌, ℕ, ◌+◌, ◌<◌, ◌≤◌, Bool, true, ◌⊎◌, List, length, get_or, Some, None, Option, refl, ap, subst, inl, inr, arith}
 use Rattle.std.specs.List.{slice_get}
 use Rattle.std.proofs.lemmas.Option.{slice_get_read}
 use Rattle.std.proofs.lemmas.Bool.{cases_order, cases_lt}
 use Rattle.language.specs.Lines.{place}
 use Rattle.language.proofs.Lists.{nth_below, place_in, place_none, place_first}
-use Rattle.table.specs.Lookup.{NoneBelow, Hit, Finds, Inside}
+use Rattle.table.specs.Lookup.{NoneBelow, Finds, Inside}
 
 module _ {E : Type 0} (P : E → Type 0) (es : List E) where
   pub none_yet : NoneBelow P es 0

@@ -1,17 +1,17 @@
 -- What is picked from a list one by one, and the lines of a table one by one.
-use Rattle.std.proofs.Common.{◌≡◌, ℕ, zero, suc, ◌+◌, ◌<◌, ◌≤◌, Bool, true, false, ◌&&◌, ◌⊎◌, List, [], ◌∷◌, ◌++◌, length, drop, Some, None, Option, sym, refl, ap, ◌∙◌, subst, inl, inr, append_assoc, append-nil, add-one, arith, length-append}
+use Rattle.std.proofs.Common.{◌≡◌, ℕ, zero, suc, ◌+◌, ◌<◌, ◌≤◌, List, [], ◌∷◌, ◌++◌, length, drop, Some, None, Option, sym, refl, ap, ◌∙◌, subst, append_assoc, append-nil, add-one, arith, length-append}
 use Rattle.std.specs.List.{slice_get}
 use Rattle.language.specs.declared.handler.Handler.{Handler}
 use Rattle.language.specs.declared.instruction.Instruction.{Instruction}
 use Rattle.language.specs.declared.record.Record.{Record}
 use Rattle.language.specs.declared.record.Record.TheVariants.{Routine, Block, Body}
-use Rattle.language.specs.Lines.{Line, line, lines, lines_after, later, place, heads_routine, heads_block}
-use Rattle.language.proofs.Lists.{clash, nth_below}
+use Rattle.language.specs.Lines.{line, lines, lines_after}
+use Rattle.language.proofs.Lists.{clash}
 use Rattle.language.proofs.Lines.{length-lines}
 use Rattle.table.specs.declared.scope.Scope.{Scope}
 use Rattle.table.specs.declared.entries.RoutineEntry.{RoutineEntry}
 use Rattle.table.specs.declared.entries.BlockEntry.{BlockEntry}
-use Rattle.table.specs.Entries.{kept, picked, routine_entry, block_entry, routine_entries, block_entries, of_routine, of_block}
+use Rattle.table.specs.Entries.{kept, picked, routine_entry, block_entry, routine_entries, block_entries}
 use Rattle.table.specs.Scopes.{nowhere, scope_at}
 
 -- what is left from a place on begins with what stands there

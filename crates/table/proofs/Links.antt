@@ -1,18 +1,17 @@
 -- What is looked up among the entries of a table is what its records say.
-use Rattle.std.proofs.Common.{◌≡◌, ℕ, zero, suc, ◌+◌, ◌<◌, Bool, true, false, ◌⊎◌, List, [], ◌∷◌, length, get_or, Some, None, Option, sym, refl, ap, ◌∙◌, subst, inl, inr, arith}
+use Rattle.std.proofs.Common.{◌≡◌, ℕ, suc, ◌+◌, Bool, true, false, ◌⊎◌, List, [], ◌∷◌, get_or, Some, None, Option, sym, refl, ap, ◌∙◌, inl, inr, arith}
 use Rattle.std.specs.List.{slice_get}
 use Rattle.std.proofs.lemmas.Option.{slice_get-get_or}
-use Rattle.language.specs.declared.handler.Handler.{Handler}
 use Rattle.language.specs.declared.record.Record.{Record}
 use Rattle.language.specs.declared.record.Record.TheVariants.{Routine, Block, Body}
 use Rattle.language.specs.Forms.{Called, called}
-use Rattle.language.specs.Lines.{Line, line, lines, later, place, heads_routine, heads_block, routine_place, block_place, Enters}
+use Rattle.language.specs.Lines.{Line, line, lines, place, heads_routine, heads_block, routine_place, block_place, Enters}
 use Rattle.language.specs.Causes.{Absent, Miscounted}
 use Rattle.language.proofs.Lists.{clash, nth_below, place_in}
 use Rattle.language.proofs.Lines.{routine_of, BlockOf, block_of}
 use Rattle.table.specs.declared.entries.RoutineEntry.{RoutineEntry}
 use Rattle.table.specs.declared.entries.BlockEntry.{BlockEntry}
-use Rattle.table.specs.Entries.{kept, picked, routine_entry, block_entry, routine_entries, block_entries, of_routine, of_block, routine_placed, block_placed, routine_at_of, block_at, no_routine_entry, no_block_entry}
+use Rattle.table.specs.Entries.{picked, routine_entry, block_entry, routine_entries, block_entries, of_routine, of_block, routine_placed, block_placed, routine_at_of, block_at, no_routine_entry, no_block_entry}
 use Rattle.table.specs.Names.{Unknown, Misfit}
 
 -- a test of entries that says what a test of the elements does that they are picked from

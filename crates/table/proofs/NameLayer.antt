@@ -1,5 +1,5 @@
 -- What one turn of layer 3's loop keeps, and what its ends give.
-use Rattle.std.proofs.Common.{◌≡◌, ℕ, zero, suc, ◌+◌, ◌<◌, ◌≤◌, Bool, true, false, ◌⊎◌, List, [], ◌∷◌, length, Some, None, Option, sym, refl, ap, ◌∙◌, subst, inl, inr, arith}
+use Rattle.std.proofs.Common.{◌≡◌, ℕ, ◌+◌, ◌<◌, ◌≤◌, ◌⊎◌, List, [], ◌∷◌, length, Some, None, Option, sym, refl, ap, ◌∙◌, subst, inl, inr, arith}
 use Rattle.std.specs.List.{slice_get}
 use Rattle.std.proofs.lemmas.Bool.{cases_lt}
 use Rattle.language.specs.declared.cause.NameCause.{NameCause}
@@ -8,11 +8,11 @@ use Rattle.language.specs.declared.handler.Handler.{Handler}
 use Rattle.language.specs.declared.record.Record.{Record}
 use Rattle.language.specs.declared.record.Record.TheVariants.{Routine, Block, Body}
 use Rattle.language.specs.Forms.{variables, labels, Called, calls}
-use Rattle.language.specs.Lines.{Line, line, lines, heads_routine, heads_block, routine_place, block_place}
+use Rattle.language.specs.Lines.{line, lines, heads_routine, heads_block, routine_place, block_place}
 use Rattle.language.specs.Causes.{name_number_of, Any, Absent, Miscounted, InNames, repeated_routine, repeated_block, no_main, no_variable, no_block, no_routine, argument_count}
 use Rattle.language.specs.Refusals.{First, NamesClear}
 use Rattle.language.proofs.Lists.{clash, nth_below, place_in, place_found}
-use Rattle.language.proofs.Lines.{line_record, length-lines, routine_of, routine_passes, BlockOf, block_of, block_passes}
+use Rattle.language.proofs.Lines.{line_record, length-lines, routine_passes, block_of, block_passes}
 use Rattle.language.proofs.Names.{enters}
 use Rattle.table.specs.declared.scope.Scope.{Scope}
 use Rattle.table.specs.Entries.{routine_entries, block_entries, routine_at_of, block_at}

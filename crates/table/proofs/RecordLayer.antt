@@ -1,5 +1,5 @@
 -- What one turn of layer 1's loop keeps, and what its ends give.
-use Rattle.std.proofs.Common.{◌≡◌, ℕ, zero, suc, ◌+◌, ◌*◌, ◌/◌, ◌%◌, ◌<◌, ◌≤◌, List, [], ◌∷◌, ◌++◌, map, length, get_or, take, drop, Some, None, sym, refl, ap, ◌∙◌, subst, arith, length-drop, take-append-drop, length-take, take_all}
+use Rattle.std.proofs.Common.{◌≡◌, ℕ, zero, suc, ◌+◌, ◌*◌, ◌/◌, ◌<◌, ◌≤◌, List, [], ◌∷◌, ◌++◌, map, length, get_or, take, drop, Some, sym, refl, ap, ◌∙◌, subst, arith, length-drop, take-append-drop, length-take, take_all}
 use Rattle.std.specs.List.{slice_get, AllByRecursion, flat_map}
 use Rattle.std.specs.Simd.{first_chunks}
 use Rattle.std.proofs.lemmas.List.{take_more, map-append, length-map}
@@ -9,10 +9,10 @@ use Rattle.language.specs.declared.cause.RecordCause.TheVariants.{Length, Letter
 use Rattle.language.specs.declared.record.Record.{Record}
 use Rattle.language.specs.Bytes.{encode, bytes, InRange}
 use Rattle.language.specs.Rows.{rows, Whole, Known, Within, Clean}
-use Rattle.language.specs.WellFormed.{Legible, Holds}
+use Rattle.language.specs.WellFormed.{Holds}
 use Rattle.language.specs.Causes.{record_number_of, InRecords, bad_length, bad_letter, bad_range, bad_padding}
 use Rattle.language.specs.Refusals.{First}
-use Rattle.language.proofs.Lists.{clash, nth_below, all_nth}
+use Rattle.language.proofs.Lists.{all_nth}
 use Rattle.language.proofs.Bytes.{row_sound, nth_map}
 use Rattle.table.specs.Rows.{Missed, StandsFor}
 

@@ -1,12 +1,12 @@
 -- What the bytes of a row, read one by one, say of the row.
-use Rattle.std.proofs.Common.{◌≡◌, ℕ, suc, List, [], ◌∷◌, length, get_or, Ok, Err, Result, sym, refl, ap, ◌∙◌, subst, arith}
+use Rattle.std.proofs.Common.{◌≡◌, ℕ, List, [], ◌∷◌, length, Ok, Err, Result, sym, refl, ap, ◌∙◌, subst, arith}
 use Rattle.language.specs.declared.cause.RecordCause.{RecordCause}
 use Rattle.language.specs.declared.cause.RecordCause.TheVariants.{Length, Letter, Range, Padding}
 use Rattle.language.specs.declared.record.Record.{Record}
 use Rattle.language.specs.Bytes.{encode, InRange}
 use Rattle.language.specs.Rows.{Known, Within, Clean}
 use Rattle.language.proofs.Bytes.{encode_fixes, row_sound}
-use Rattle.table.specs.Rows.{Missed, StandsFor, Decodes, eight, Reads}
+use Rattle.table.specs.Rows.{Missed, Decodes, eight, Reads}
 
 pub eight_listed : (row : List ℕ) → length row ≡ 8 → eight row ≡ row
 eight_listed [] e = absurd (omega arith)

@@ -1,12 +1,12 @@
 -- From what each layer answers to what the check does.
-use Rattle.std.proofs.Common.{◌≡◌, ℕ, suc, ◌+◌, ◌<◌, ◌≤◌, Bool, true, false, cond, List, [], ◌∷◌, length, Some, None, Ok, Err, count_by, Option, Result, sym, refl, ap, ◌∙◌, subst, arith}
+use Rattle.std.proofs.Common.{◌≡◌, ℕ, suc, ◌+◌, ◌≤◌, cond, List, [], ◌∷◌, length, None, Ok, Err, count_by, Option, Result, refl, arith}
 use Rattle.std.proofs.lemmas.List.Sums.{sum_by-cons}
 use Rattle.language.specs.declared.handler.Handler.{Handler}
 use Rattle.language.specs.declared.record.Record.{Record}
 use Rattle.language.specs.declared.record.Record.TheVariants.{Routine, Block, Body}
 use Rattle.language.specs.Forms.{is_routine, is_block}
 use Rattle.language.specs.Lines.{lines_after}
-use Rattle.language.specs.WellFormed.{WellFormed, Holds, WellFormedBytes}
+use Rattle.language.specs.WellFormed.{Holds, WellFormedBytes}
 use Rattle.language.specs.Causes.{record_number_of, block_number_of, name_number_of, InRecords, InBlocks, InNames}
 use Rattle.language.specs.Refusals.{First, BlocksClear, NamesClear, Refused, by_records, by_blocks, by_names}
 use Rattle.language.proofs.Blocks.{blocked}

@@ -1,6 +1,6 @@
-use Rattle.std.proofs.Common.{◌≡◌, ◌<◌, ℤ, pos, ◌+ℤ◌, ◌*ℤ◌, Some, None, sym, ap, ◌∙◌, arith, w32, SFits, to_z, of_z, rules}
-use lib.Signed.{rem_z, quot_z}
-use Rattle.std.proofs.lemmas.Int.{ints, to_z-of_z}
+use Rattle.std.proofs.Common.{◌≡◌, pos, Some, None, ◌∙◌, w32, rules}
+use lib.Signed.{rem_z}
+use Rattle.std.proofs.lemmas.Int.{to_z-of_z}
 use Rattle.bench.specs.Bounds.{full_turn}
 use Rattle.bench.specs.Ranges.{angle_at}
 use Rattle.bench.specs.Reading.{read_under}

@@ -1,6 +1,5 @@
 use Rattle.std.proofs.Common.{◌≡◌, length, get_or, subst, arith}
 use Rattle.std.proofs.lemmas.Option.{slice_get-get_or}
-use Rattle.language.specs.declared.record.Record.{Record}
 use Rattle.language.specs.declared.record.Record.TheVariants.{Routine}
 use Rattle.table.proofs.BlockLayer.{Sofar, more, first, done, left_open}
 use Rattle.table.proofs.blocks.check_blocks.Goals as goal

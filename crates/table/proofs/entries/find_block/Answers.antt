@@ -1,6 +1,5 @@
 use Rattle.std.proofs.Common.{◌≡◌, eqb, sym, ap}
 use Rattle.std.proofs.lemmas.Bool.{eqb-true, eq-eqb, and_parts, and_from}
-use Rattle.table.specs.declared.entries.BlockEntry.{BlockEntry}
 use Rattle.table.specs.declared.entries.BlockKey.{BlockKey}
 use Rattle.table.specs.Entries.{of_block}
 use Rattle.table.proofs.Finding.{finds_place, finds_inside}

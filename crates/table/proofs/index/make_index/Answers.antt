@@ -1,6 +1,5 @@
-use Rattle.std.proofs.Common.{◌≡◌, length, get_or, ap, ◌∙◌, arith, lit<}
+use Rattle.std.proofs.Common.{get_or, ap, ◌∙◌, arith, lit<}
 use Rattle.std.proofs.lemmas.Option.{slice_get-get_or}
-use Rattle.language.specs.declared.record.Record.{Record}
 use Rattle.language.specs.declared.record.Record.TheVariants.{Routine}
 use Rattle.table.specs.Few.{held}
 use Rattle.table.proofs.Indexing.{start, more_routine, more_block, more_body, room_routine, room_block, all_routines, all_blocks}

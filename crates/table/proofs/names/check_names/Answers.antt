@@ -1,13 +1,12 @@
-use Rattle.std.proofs.Common.{◌≡◌, length, get_or, Some, None, sym, ap, ◌∙◌, subst, arith}
+use Rattle.std.proofs.Common.{◌≡◌, length, get_or, sym, ap, ◌∙◌, subst, arith}
 use Rattle.std.proofs.lemmas.Option.{slice_get-get_or}
-use Rattle.language.specs.declared.record.Record.{Record}
 use Rattle.language.specs.declared.record.Record.TheVariants.{Routine}
 use Rattle.language.specs.Lines.{routine_place}
 use Rattle.language.proofs.Lists.{clash}
-use Rattle.table.specs.Entries.{routine_entries, block_entries, routine_at_of}
+use Rattle.table.specs.Entries.{routine_entries, routine_at_of}
 use Rattle.table.specs.Names.{Flawed}
 use Rattle.table.proofs.Links.{routine_at_is}
-use Rattle.table.proofs.NameLayer.{Sofar, Said, start, first, more, done, main_missing}
+use Rattle.table.proofs.NameLayer.{Sofar, Said, first, more, done, main_missing}
 use Rattle.table.proofs.names.check_names.Goals as goal
 use Rattle.table.proofs.names.check_names.Goals.{After-flaw, After-loop-place, After-routine_at}
 

@@ -1,4 +1,4 @@
-use Rattle.std.proofs.Common.{◌≡◌, refl, ap, ◌∙◌}
+use Rattle.std.proofs.Common.{refl, ap, ◌∙◌}
 use Rattle.bench.specs.Reading.{reading_below, read_under}
 use Rattle.bench.proofs.Reading.{same_angle, read_twice}
 use Rattle.bench.proofs.angle.Angle.read_under.Goals as goal

@@ -1,11 +1,9 @@
-use Rattle.std.proofs.Common.{◌≡◌, get_or, Ok, sym, refl, ap, ◌∙◌, w32, SFits, rules}
+use Rattle.std.proofs.Common.{◌≡◌, Ok, sym, ap, ◌∙◌, w32, SFits, rules}
 use Rattle.std.proofs.lemmas.Int.{to_z-of_z}
 use Rattle.bench.specs.Actions.{action_of}
 use Rattle.bench.specs.Reading.{state_under}
-use Rattle.bench.specs.Respond.{Outcome, respond}
-use Rattle.bench.specs.Sight.{sight}
+use Rattle.bench.specs.Respond.{Outcome}
 use Rattle.bench.specs.declared.action.Action.TheVariants.{Look}
-use Rattle.bench.specs.declared.spot.Spot.TheVariants.{Free}
 use Rattle.benches.specs.Turned.{same_number, look_under, look_below, other_under}
 use Rattle.benches.proofs.turned_bench.TurnedBenchBench.request.Goals as goal
 

@@ -1,4 +1,4 @@
-use Rattle.std.proofs.Common.{◌≡◌, ap, ◌∙◌}
+use Rattle.std.proofs.Common.{ap, ◌∙◌}
 use Rattle.table.specs.Checked.{records_of}
 use Rattle.table.specs.Entries.{block_at}
 use Rattle.table.proofs.Links.{block_at_is}

@@ -1,4 +1,4 @@
-use Rattle.std.proofs.Common.{◌≡◌, ap, ◌∙◌}
+use Rattle.std.proofs.Common.{ap, ◌∙◌}
 use Rattle.table.specs.Checked.{records_of}
 use Rattle.table.specs.Entries.{routine_at_of}
 use Rattle.table.proofs.Links.{routine_at_is}

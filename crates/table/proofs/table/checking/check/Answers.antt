@@ -1,8 +1,6 @@
-use Rattle.std.proofs.Common.{◌≡◌, List, Err, sym, ap, ◌∙◌, subst}
+use Rattle.std.proofs.Common.{Err, sym, ap, ◌∙◌, subst}
 use Rattle.std.proofs.lemmas.Result.{err_from_is_err_and}
-use Rattle.language.specs.declared.record.Record.{Record}
 use Rattle.language.specs.WellFormed.{Holds}
-use Rattle.language.specs.Refusals.{BlocksClear, NamesClear}
 use Rattle.table.specs.Few.{held}
 use Rattle.table.specs.Entries.{routine_entries, block_entries}
 use Rattle.table.specs.Checked.{Accepts, Checked}

@@ -1,4 +1,4 @@
-use Rattle.std.proofs.Common.{◌≡◌, ◌<◌, length, sym, ◌∙◌, arith, rules}
+use Rattle.std.proofs.Common.{◌<◌, length, sym, ◌∙◌, arith}
 use lib.ListN.{get_or-replicate}
 use Rattle.bench.specs.Bounds.{site_count}
 use Rattle.bench.specs.declared.spot.Spot.TheVariants.{Free}

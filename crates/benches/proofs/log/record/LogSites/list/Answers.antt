@@ -1,4 +1,4 @@
-use Rattle.std.proofs.Common.{◌≡◌, ◌<◌, length, get_or, set, sym, ap, ◌∙◌, arith, rules}
+use Rattle.std.proofs.Common.{◌<◌, length, get_or, set, sym, ap, ◌∙◌, arith}
 use Rattle.benches.specs.Laid.{after}
 use Rattle.benches.specs.LaidLemmas.{spot, after_more}
 use Rattle.benches.proofs.log.record.LogSites.list.Goals as goal
