@@ -1,8 +1,8 @@
 -- What pushing, popping and catching do to the frames that stand.
-use Rattle.std.specs.Prelude.{◌≡◌, ℕ, ◌<◌, Bool, true, false, List, [], ◌∷◌, length, Some, None, Option}
+use Rattle.std.specs.Prelude.{◌≡◌, ◌<◌, Bool, true, false, List, [], ◌∷◌, length, Some, None, Option}
 use Rattle.direct.specs.Views.{frame_of}
 use Rattle.direct.specs.declared.frame.Frame.{Frame}
-use Rattle.language.specs.Runs.{frame_count, Frame as Saved, Catcher, catcher}
+use Rattle.language.specs.Runs.{frame_count, Frame as Saved, catcher}
 use Rattle.language.specs.declared.handler.Handler.{Handler}
 
 -- one frame more, or as many as there may be

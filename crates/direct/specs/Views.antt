@@ -1,5 +1,5 @@
 -- What the code's frames stand for in the rules.
-use Rattle.std.specs.Prelude.{ℕ, zero, suc, List, [], ◌∷◌, replicate, ℤ, pos, None, slice_index_or, refl}
+use Rattle.std.specs.Prelude.{ℕ, zero, suc, List, [], ◌∷◌, replicate, pos, None, slice_index_or, refl}
 use Rattle.direct.specs.declared.frame.Frame.{Frame}
 use Rattle.direct.specs.declared.frames.Frames.{Frames}
 use Rattle.language.specs.Runs.{variable_count, Frame as Saved}

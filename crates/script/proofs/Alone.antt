@@ -1,10 +1,9 @@
 -- Words say one thing at most: what that is, as a function.
-use Rattle.std.proofs.Common.{◌≡◌, ℕ, false, cond, eqb, List, [], ◌∷◌, map, get_or, ℤ, Some, None, codes, Option, sym, refl, ap, ◌∙◌}
+use Rattle.std.proofs.Common.{◌≡◌, false, cond, eqb, List, [], ◌∷◌, map, get_or, ℤ, Some, None, codes, Option, sym, refl, ap, ◌∙◌}
 use Rattle.std.specs.Str.Parse.{signed_digits_value}
 use Rattle.std.specs.Str.{bytes_eq}
 use Rattle.script.specs.Lines.{Numbers, Says, bench, turn, load, jog, state, number_sign, Reads, empty, comment, asks}
 use Rattle.script.specs.Names.{keyword_name, kind_name, Names}
-use Rattle.script.specs.Numbers.{Writes}
 use Rattle.script.specs.Words.{Word}
 use Rattle.script.specs.declared.keyword.Keyword.{Keyword}
 use Rattle.script.specs.declared.keyword.Keyword.TheVariants.{Bench, Turn, Load, Jog, State}

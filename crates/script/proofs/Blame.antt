@@ -1,11 +1,11 @@
 -- Words that are blamed say nothing.
-use Rattle.std.proofs.Common.{◌≡◌, ℕ, ◌⊎◌, List, [], ◌∷◌, length, replicate, ℤ, IsErrAnd, IfErr, Ok, Err, Result, sym, refl, ap, ◌∙◌, subst, inl, inr, MatchResult}
+use Rattle.std.proofs.Common.{◌≡◌, ◌⊎◌, List, [], ◌∷◌, length, replicate, ℤ, IsErrAnd, IfErr, Ok, Err, Result, sym, refl, ◌∙◌, subst, inl, inr, MatchResult}
 use Rattle.script.specs.Blame.{fields, Meets, Blames, missing, wrong, extra, later}
 use Rattle.script.specs.Fields.{Takes, Lacks}
 use Rattle.script.specs.Lines.{Numbers, Says, bench, turn, load, jog, state}
 use Rattle.script.specs.Names.{Names}
 use Rattle.script.specs.Numbers.{Writes}
-use Rattle.script.specs.Tables.{Hex, HexIs}
+use Rattle.script.specs.Tables.{HexIs}
 use Rattle.script.specs.Words.{Word}
 use Rattle.script.specs.declared.expected.Expected.{Expected}
 use Rattle.script.specs.declared.expected.Expected.TheVariants.{Kind, Number, Counts, Table, End}

@@ -1,5 +1,5 @@
 -- The fields of a line, put together.
-use Rattle.std.proofs.Common.{◌≡◌, List, [], ◌∷◌, length, ℤ, sym, subst}
+use Rattle.std.proofs.Common.{◌≡◌, List, [], length, ℤ, sym, subst}
 use Rattle.script.specs.Fields.{Takes}
 use Rattle.script.specs.Lines.{Numbers, Says, bench, turn, load, jog, state}
 use Rattle.script.specs.Names.{Names}

@@ -1,5 +1,5 @@
 -- Which line may come at a position, and where it leads.
-use Rattle.std.proofs.Common.{◌≡◌, ℕ, List, ℤ, IfErr, Ok, Err, Result, sym, refl, ap, ◌∙◌, subst, arith, MatchResult}
+use Rattle.std.proofs.Common.{◌≡◌, List, ℤ, IfErr, Ok, Err, Result, sym, refl, ◌∙◌, subst, MatchResult}
 use Rattle.bench.specs.declared.request.Request.{Request}
 use Rattle.script.specs.Fields.{Found}
 use Rattle.script.specs.Order.{Open, Next, begins, turns, loads, jogs, ends, wanted}

@@ -1,5 +1,5 @@
 -- What is told of a line that says nothing: what was expected at the first word that does not fit.
-use Rattle.std.specs.Prelude.{◌≡◌, List, [], ◌∷◌, replicate, ℤ, ◌≢◌, slice_index}
+use Rattle.std.specs.Prelude.{List, [], ◌∷◌, replicate, ℤ, ◌≢◌, slice_index}
 use Rattle.script.specs.Lines.{number_sign}
 use Rattle.script.specs.Names.{keyword_name, Names}
 use Rattle.script.specs.Numbers.{Writes}

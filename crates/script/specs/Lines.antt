@@ -1,6 +1,5 @@
 -- What a line of a script says, by its words.
 use Rattle.std.specs.Prelude.{◌≡◌, ℕ, List, [], ◌∷◌, length, ℤ, Some, None, Option}
-use Rattle.bench.specs.declared.request.Request.{Request}
 use Rattle.script.specs.Names.{keyword_name, Names}
 use Rattle.script.specs.Numbers.{Writes}
 use Rattle.script.specs.Tables.{Hex}

@@ -1,5 +1,5 @@
 -- The bytes of a table as a word: two hexadecimal digits a byte, or a dash where there is no byte.
-use Rattle.std.specs.Prelude.{◌≡◌, ℕ, ◌+◌, ◌*◌, ◌<◌, cond, ◌⊎◌, List, [], ◌∷◌, codes, nat_lt}
+use Rattle.std.specs.Prelude.{ℕ, ◌+◌, ◌*◌, ◌<◌, cond, List, [], ◌∷◌, codes, nat_lt}
 use Rattle.std.specs.Char.{digit_value}
 use Rattle.script.specs.Words.{Word}
 

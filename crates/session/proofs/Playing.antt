@@ -1,5 +1,5 @@
 -- One event at a time: what is answered is what the rules say, and only that.
-use Rattle.std.proofs.Common.{◌≡◌, ℕ, List, vec_items, Vec, sym, refl, ap, ◌∙◌, subst}
+use Rattle.std.proofs.Common.{◌≡◌, ℕ, List, vec_items, Vec, sym, refl, ap, subst}
 use Rattle.std.specs.declared.alloc.Global.{Global}
 use Rattle.bench.specs.Histories.{Deterministic}
 use Rattle.bench.specs.Responds.{Answer as Reply, Responds}

@@ -1,5 +1,5 @@
 -- What an event does to a bench, and how it is answered.
-use Rattle.std.specs.Prelude.{ℕ, ℤ, vec_items, Vec}
+use Rattle.std.specs.Prelude.{ℕ, vec_items, Vec}
 use Rattle.std.specs.declared.alloc.Global.{Global}
 use Rattle.bench.specs.Responds.{Answer as Reply, Responds}
 use Rattle.bench.specs.declared.request.Request.{Request}

@@ -1,4 +1,4 @@
-use Rattle.std.proofs.Common.{◌∙◌, arith}
+use Rattle.std.proofs.Common.{◌∙◌}
 use Rattle.script.proofs.Texts.{counts_more, counts_all}
 use Rattle.script.proofs.state.counts_text.Goals as goal
 

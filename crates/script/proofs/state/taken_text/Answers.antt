@@ -1,4 +1,4 @@
-use Rattle.std.proofs.Common.{ap, ◌∙◌, arith}
+use Rattle.std.proofs.Common.{◌∙◌}
 use Rattle.script.proofs.Texts.{sites_more, sites_all}
 use Rattle.script.proofs.state.taken_text.Goals as goal
 

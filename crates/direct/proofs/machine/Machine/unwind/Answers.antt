@@ -1,8 +1,7 @@
-use Rattle.std.proofs.Common.{◌≡◌, Some, None, rules}
+use Rattle.std.proofs.Common.{rules}
 use Rattle.direct.specs.Machines.{state_of}
 use Rattle.direct.specs.Views.{frame_of, standing}
 use Rattle.direct.proofs.Unwinding.{by_own, by_frame, by_nobody}
-use Rattle.language.specs.Runs.{catcher}
 use Rattle.direct.proofs.machine.Machine.unwind.Goals as goal
 
 pub returns-in-Some : goal.returns-in-Some
