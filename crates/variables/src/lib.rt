@@ -1,4 +1,5 @@
 //! The sixteen variables of a routine, as both kinds of stand keep them.
+#![tactic(auto)]
 
 ghost use Rattle.std.specs.Prelude.{◌≡◌, ◌≤◌, map, length, slice_set};
 ghost use Rattle.language.specs.Runs.{variable_count, value, difference, with_arguments};

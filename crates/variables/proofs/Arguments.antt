@@ -1,5 +1,5 @@
 -- Arguments put into variables, one after the other.
-use Rattle.std.proofs.Common.{◌≡◌, ℕ, zero, suc, ◌+◌, ◌-◌, ◌<◌, ◌≤◌, List, [], ◌∷◌, ◌++◌, length, get_or, take, set, replicate, ℤ, pos, sym, refl, ap, ◌∙◌, subst, arith, length-append, length-take-le, take_all}
+use Rattle.std.proofs.Common.{◌≡◌, ℕ, zero, suc, ◌+◌, ◌-◌, ◌<◌, ◌≤◌, List, [], ◌∷◌, ◌++◌, length, get_or, take, set, replicate, ℤ, pos, sym, ap, ◌∙◌, arith, length-append, length-take-le, take_all}
 use lib.ListN.{length-replicate}
 use Rattle.std.proofs.lemmas.List.{take_more, set-append_right, append_assoc}
 use Rattle.language.specs.Runs.{variable_count, with_arguments}

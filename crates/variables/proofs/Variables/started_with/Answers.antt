@@ -12,7 +12,7 @@ loop-place-preserved c =
 pub returns : goal.returns
 returns c = done _ c.args.arguments.now _ c.loop-place.invariant c.loop-place-test.false
 
-pub invariant-of-result : goal.invariant-of-result
-invariant-of-result c =
+pub invariant_of-result : goal.invariant_of-result
+invariant_of-result c =
     let given = c.args.arguments.now in
-    (ap length (done _ given _ c.loop-place.invariant c.loop-place-test.false) ∙ full given c.requires, tt)
+    record { long = ap length (done _ given _ c.loop-place.invariant c.loop-place-test.false) ∙ full given c.requires }

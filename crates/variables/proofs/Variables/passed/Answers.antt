@@ -22,12 +22,12 @@ returns c =
     let f = value c.args.self.now.values in
     done _ (map f ys) _ c.loop-place.invariant (subst (λ n. n ≤ c.loop-place.place) (sym (length-map ys f)) c.loop-place-test.false)
 
-pub invariant-of-result : goal.invariant-of-result
-invariant-of-result c =
+pub invariant_of-result : goal.invariant_of-result
+invariant_of-result c =
     let ys = c.args.arguments.now in
     let f = value c.args.self.now.values in
-    let long = sym (length-map ys f) in (
-      ap length (done _ (map f ys) _ c.loop-place.invariant (subst (λ n. n ≤ c.loop-place.place) long c.loop-place-test.false))
-          ∙ full (map f ys) (subst (λ n. n ≤ variable_count) long c.requires),
-      tt,
-    )
+    let long = sym (length-map ys f) in
+    record {
+      long = ap length (done _ (map f ys) _ c.loop-place.invariant (subst (λ n. n ≤ c.loop-place.place) long c.loop-place-test.false))
+          ∙ full (map f ys) (subst (λ n. n ≤ variable_count) long c.requires);
+    }
