@@ -1,0 +1,4 @@
+pub mod Slots
+pub mod Lettering
+pub mod Coding
+pub mod Programs

@@ -1,0 +1,5 @@
+pub mod Views
+pub mod Filling
+pub mod Decoding
+pub mod Programs
+pub mod Machines

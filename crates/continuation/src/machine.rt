@@ -1,0 +1,16 @@
+use super::cells::Cells;
+use variables::Variables;
+
+mod moves;
+
+/// A run between two steps: the program counter, the variables, register 16, the continuation and the
+/// handler, which are cells told by their place, or the outermost, and the cells.
+#[derive(Drop)]
+pub struct Machine {
+    pub counter: u16,
+    pub variables: Variables,
+    pub register: i32,
+    pub continuation: Option<u8>,
+    pub handler: Option<u8>,
+    pub cells: Cells,
+}
