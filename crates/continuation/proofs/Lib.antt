@@ -2,3 +2,4 @@ pub mod Slots
 pub mod Lettering
 pub mod Coding
 pub mod Programs
+pub mod Rules

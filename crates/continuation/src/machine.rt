@@ -2,6 +2,7 @@ use super::cells::Cells;
 use variables::Variables;
 
 mod moves;
+mod step;
 
 /// A run between two steps: the program counter, the variables, register 16, the continuation and the
 /// handler, which are cells told by their place, or the outermost, and the cells.

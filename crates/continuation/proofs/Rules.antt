@@ -1,6 +1,6 @@
 -- The rules of a step, from what the machine's moves leave.
-use Rattle.std.proofs.Common.{◌≡◌, ℕ, suc, ◌+◌, ◌<◌, ◌≤◌, Bool, true, false, List, map, length, take, set, ℤ, pos, Some, None, Ok, Err, Option, sym, refl, ap, ◌∙◌, subst, arith}
-use mathlib.Core.Logic.{∥∥₁_elim, ∥∥₁_map}
+use Rattle.std.proofs.Common.{◌≡◌, ℕ, suc, ◌<◌, ◌≤◌, Bool, true, false, List, map, length, take, set, ℤ, pos, Some, None, Ok, Err, Option, sym, refl, ap, ◌∙◌, subst, arith}
+use mathlib.Core.Logic.{∥∥₁_elim}
 use native.Mathlib.Bridge.{le_prop}
 use lib.Signed.{le_z}
 use Rattle.bench.proofs.Rules.{respond_responds}
@@ -21,10 +21,10 @@ use Rattle.language.proofs.Sizes.{held}
 use Rattle.language.proofs.WordLimits.{limited}
 use Rattle.language.specs.Code.{code}
 use Rattle.language.specs.CodeWords.{WordAt, Limited}
-use Rattle.language.specs.Configurations.{cell_count, Landing, Cell, Configuration, content, moved, faulted, saved, handed}
+use Rattle.language.specs.Configurations.{Cell, Configuration, content, moved, faulted, handed}
 use Rattle.language.specs.Continuation.{CodeStep}
 use Rattle.language.specs.Following.{Going}
-use Rattle.language.specs.Runs.{Run, running, ended, value, difference, with_arguments}
+use Rattle.language.specs.Runs.{running, ended, value, difference, with_arguments}
 use Rattle.language.specs.Steps.{Fetches, set_to, assign, subtract, answered, fault, save, exhaust, enter, jump, resume, finish, throw, uncaught, test, test_not}
 use Rattle.language.specs.Translation.{translation}
 use Rattle.language.specs.WellFormed.{WellFormed}

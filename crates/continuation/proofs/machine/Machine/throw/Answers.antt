@@ -1,14 +1,14 @@
-use Rattle.std.proofs.Common.{◌≡◌, w32, to_z, of_z, rules}
+use Rattle.std.proofs.Common.{w32, to_z, of_z, rules}
 use Rattle.continuation.proofs.Programs.{formed}
 use Rattle.continuation.proofs.Rules.{throw_below, throw_lands, by_throw, by_uncaught, handed_back}
 use Rattle.continuation.proofs.machine.Machine.throw.Goals as goal
 use Rattle.continuation.specs.Machines.{configuration}
 use Rattle.continuation.specs.Programs.{records_in}
 
-pub returns-in-default : goal.returns-in-default
-returns-in-default c b =
+pub returns-in_default : goal.returns-in_default
+returns-in_default c b =
     let p = c.args.program.now in
-    by_uncaught (records_in p) (formed p) (configuration c.args.self.now) b c.args.x (to_z w32 (of_z w32 c.content-value.result)) c.requires.here c.in-default.is (search rules)
+    by_uncaught (records_in p) (formed p) (configuration c.args.self.now) b c.args.x (to_z w32 (of_z w32 c.content-value.result)) c.requires.here c.in_default.is (search rules)
 
 pub release-cell-requires : goal.release-cell-requires
 release-cell-requires c =
