@@ -3,3 +3,4 @@ pub mod Lettering
 pub mod Coding
 pub mod Programs
 pub mod Rules
+pub mod Beating

@@ -3,3 +3,4 @@ pub mod Filling
 pub mod Decoding
 pub mod Programs
 pub mod Machines
+pub mod Beating

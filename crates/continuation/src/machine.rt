@@ -1,6 +1,7 @@
 use super::cells::Cells;
 use variables::Variables;
 
+mod beat;
 mod moves;
 mod step;
 

@@ -9,4 +9,4 @@ abbrev pub invariant-loop-made : goal.invariant-loop-made
 invariant-loop-made g l =
     let bench = g.B.Bench.state in
     let p = l.program in
-    Settling (records_in p) (formed p) (progressed l.opened (configuration l.initial.self)) (bench l.initial.bench) l.made (progressed l.progress (configuration l.self)) (bench l.bench)
+    Settling (records_in p) (formed p) (progressed l.fn.opened (configuration l.initial.self)) (bench l.initial.bench) l.made (progressed l.progress (configuration l.self)) (bench l.bench)

@@ -1,4 +1,4 @@
-use Rattle.std.proofs.Common.{rules}
+use Rattle.std.proofs.Common.{arith}
 use Rattle.continuation.proofs.Beating.{follows_on, midway_first, whole}
 use Rattle.continuation.proofs.Programs.{formed}
 use Rattle.continuation.proofs.Rules.{low}
@@ -17,8 +17,13 @@ step-opened-requires g c =
     let p = c.args.program.now in
     record { here = c.word-word.ensures; going = follows_on (records_in p) (formed p) (configuration c.args.self.now) _ c.requires }
 
-pub settle-requires : goal.settle-requires
-settle-requires g c = let p = c.args.program.now in midway_first (records_in p) (formed p) (configuration c.args.self.now) _ _ _ c.requires c.step-opened.ensures
+pub settle-progress-requires : goal.settle-progress-requires
+settle-progress-requires g c = let p = c.args.program.now in midway_first (records_in p) (formed p) (configuration c.args.self.now) _ _ _ c.requires c.step-opened.ensures
 
 pub returns : goal.returns
-returns g c = ?
+returns g c =
+    let p = c.args.program.now in
+    record {
+      beat = whole (records_in p) (formed p) (configuration c.args.self.now) _ _ _ c.word-word.result _ _ c.settle-progress.result.1 c.requires c.word-word.ensures c.step-opened.ensures c.settle-progress.ensures.rest;
+      few = omega (arith, c.settle-progress.ensures.few);
+    }
