@@ -7,3 +7,4 @@ pub mod Recording
 pub mod Tabling
 pub mod Answering
 pub mod Unique
+pub mod Starting

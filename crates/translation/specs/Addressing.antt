@@ -1,6 +1,7 @@
 -- What is known of the addresses of a table.
-use Rattle.std.specs.Prelude.{◌≡◌, ℕ, ◌<◌, ◌≤◌, List, length, slice_index}
+use Rattle.std.specs.Prelude.{◌≡◌, ℕ, suc, ◌<◌, ◌≤◌, List, length, slice_index}
 use Rattle.language.specs.declared.record.Record.{Record}
+use Rattle.language.specs.Lines.{Enters}
 use Rattle.language.specs.Translation.{address, translation}
 use Rattle.translation.specs.declared.addresses.Addresses.{Addresses}
 
@@ -10,3 +11,7 @@ pub record Addressed (t : List Record) (a : Addresses) : Type 0 where
   pub few : length t ≤ 256
   pub each : (i : ℕ) → i < length t → slice_index a.of i ≡ address t i
   pub all : a.words ≡ length (translation t)
+
+-- a is the address of the first instruction of routine 0
+pub record EntryAddress (t : List Record) (a : ℕ) : Type 0 where
+  pub is : (j p q : ℕ) → Enters t 0 j p q → a ≡ address t (suc j)

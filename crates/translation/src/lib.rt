@@ -15,4 +15,5 @@ mod writing;
 pub use encoding::encode;
 pub use fault::{ShortBuffer, TranslationFault};
 pub use laws::one_answer_fits;
+pub use targets::entry_address;
 pub use translating::{MOST_BYTES, translate, translate_bytes, translate_table};

@@ -3,9 +3,9 @@
 ghost use Rattle.std.specs.Prelude.{◌≡◌};
 ghost use Rattle.language.specs.Translation.{block_address_of, routine_address_of};
 ghost use Rattle.table.specs.Checked.{records_of};
-ghost use Rattle.translation.specs.Addressing.{Addressed};
+ghost use Rattle.translation.specs.Addressing.{Addressed, EntryAddress};
 
-use super::addresses::Addresses;
+use super::addresses::{Addresses, find_addresses};
 use table::Table;
 
 /// The address of a block of a routine.
@@ -28,4 +28,12 @@ pub fn routine_address(table: &Table, addresses: &Addresses, identifier: u8) -> 
         Some(place) => addresses.of[place],
         None => 0,
     }
+}
+
+/// The address at which a run starts: that of routine 0's first instruction.
+pub fn entry_address(table: &Table) -> u16
+    ensures { EntryAddress (records_of table.now) result }
+{
+    let addresses = find_addresses(table.records());
+    addresses.of[table.main().place + 1]
 }

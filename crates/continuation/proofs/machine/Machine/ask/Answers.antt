@@ -1,0 +1,26 @@
+use Rattle.std.proofs.Common.{w32, to_z, of_z, rules}
+use Rattle.continuation.proofs.Programs.{formed}
+use Rattle.continuation.proofs.Rules.{few, by_answer, by_fault}
+use Rattle.continuation.proofs.machine.Machine.ask.Goals as goal
+use Rattle.continuation.specs.Machines.{configuration}
+use Rattle.continuation.specs.Programs.{records_in}
+
+pub overflow_add-self : goal.overflow_add-self
+overflow_add-self g c = let p = c.args.program.now in let l = few (records_in p) (formed p) (configuration c.args.self.now) _ c.requires.going in search rules
+
+pub catch-requires : goal.catch-requires
+catch-requires g c = let p = c.args.program.now in few (records_in p) (formed p) (configuration c.args.self.now) _ c.requires.going
+
+pub returns-in-Ok : goal.returns-in-Ok
+returns-in-Ok g c =
+    let p = c.args.program.now in
+    by_answer (records_in p) (formed p) (configuration c.args.self.now) _ _ c.args.x c.args.operation c.args.y c.args.catch c.requires.here c.request.result
+    (to_z w32 (of_z w32 c.from.result)) (to_z w32 (of_z w32 c.get-number.result)) (search rules) (search rules) c.request.ensures.answer c.request.ensures.after
+    c.in-Ok.answer _ c.in-Ok.is (search rules)
+
+pub returns-in-Err : goal.returns-in-Err
+returns-in-Err g c =
+    let p = c.args.program.now in
+    by_fault (records_in p) (formed p) (configuration c.args.self.now) _ _ c.args.x c.args.operation c.args.y c.args.catch c.requires.here c.request.result
+    (to_z w32 (of_z w32 c.from.result)) (to_z w32 (of_z w32 c.get-number.result)) (search rules) (search rules) c.request.ensures.answer c.request.ensures.after
+    c.in-Err.fault (to_z w32 (of_z w32 c.number.result)) _ c.in-Err.is (search rules) c.catch.ensures
