@@ -1,5 +1,5 @@
 -- What the names in a table's records stand for, looked up beforehand.
-use Rattle.std.specs.Prelude.{◌≡◌, ℕ, suc, List, get_or, Some, None, Option, slice_index_or}
+use Rattle.std.specs.Prelude.{◌≡◌, ℕ, suc, List, Some, None, Option, slice_index_or}
 use Rattle.std.specs.List.{slice_get}
 use Rattle.language.specs.Lines.{line, lines, Heads, Enters}
 use Rattle.language.specs.declared.handler.Handler.{Handler}
@@ -50,4 +50,4 @@ module _ (t : List Record) where
   -- each record has its link, at its place
   pub record Linked (ks : List Link) : Type 0 where
     pub names : (i r n : ℕ) (h : Option Handler) (x : Record) → slice_get (lines t) i ≡ Some (line r n h x) → LinkedBy r x (slice_index_or ks i no_link)
-    pub handlers : (i r n : ℕ) (h : Option Handler) (x : Record) → slice_get (lines t) i ≡ Some (line r n h x) → HandledBy r h (get_or ks i no_link).handler
+    pub handlers : (i r n : ℕ) (h : Option Handler) (x : Record) → slice_get (lines t) i ≡ Some (line r n h x) → HandledBy r h (slice_index_or ks i no_link).handler
