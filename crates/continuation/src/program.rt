@@ -1,5 +1,5 @@
 ghost use Rattle.std.specs.Prelude.{◌≡◌, length, take};
-ghost use Rattle.language.specs.Code.{code as code_of_lem};
+ghost use Rattle.language.specs.Code.{code as code_of};
 ghost use Rattle.table.specs.Checked.{records_of};
 ghost use Rattle.translation.specs.Addressing.{EntryAddress};
 
@@ -15,6 +15,6 @@ pub struct Program {
     code: [u8; 7808],
     entry: u16,
     ghost long: { length code ≡ 7808 },
-    ghost coded: { take (length (code_of_lem (records_of table))) code ≡ code_of_lem (records_of table) },
+    ghost coded: { take (length (code_of (records_of table))) code ≡ code_of (records_of table) },
     ghost enters: { ∥ EntryAddress (records_of table) entry ∥₁ },
 }
