@@ -13,7 +13,7 @@ use Rattle.direct.specs.Programs.{records_in}
 use Rattle.direct.specs.Stands.{go_answer}
 use Rattle.direct.specs.declared.gone.Gone.{Gone}
 use Rattle.direct.specs.declared.program.Program.{Program}
-use Rattle.language.proofs.DirectCalls.{begins_reached, keeps_reached as stays-reached}
+use Rattle.language.proofs.DirectCalls.{begins_reached, keeps_reached as stays_reached}
 use Rattle.language.proofs.Lists.{all_nth, nth_below}
 use Rattle.language.proofs.SoundCalls.{goes_good}
 use Rattle.language.specs.Asked.{Asked}
@@ -105,7 +105,7 @@ pub went_kept : (p : Program) (n : ℕ) (s s' : State) (b b' : Standing) (g : Go
 went_kept p n s s' b b' g here w = by g.progress refl
   where
     by : (q : Progress) → g.progress ≡ q → Keeps (Some p) (Some q) s'
-    by Running e = goes_good direct_begin DirectBeat ReachableRun begins_reached stays-reached (records_in p) (formed p) n g.beats w.steps (running s) (running s') b b' here (subst (λ v. DirectGoes (records_in p) n (running s) b g.beats w.steps (progressed v s') b') e w.goes)
+    by Running e = goes_good direct_begin DirectBeat ReachableRun begins_reached stays_reached (records_in p) (formed p) n g.beats w.steps (running s) (running s') b b' here (subst (λ v. DirectGoes (records_in p) n (running s) b g.beats w.steps (progressed v s') b') e w.goes)
     by (Ended e) eq = tt
 
 -- a request that the bench answers as its contract says

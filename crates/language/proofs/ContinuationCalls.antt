@@ -2,7 +2,7 @@
 use Rattle.std.proofs.Common.{◌≡◌, ℕ, ◌+◌, List, subst, suc-add, zero-add}
 use Rattle.bench.specs.declared.state.State.{State as Standing}
 use Rattle.language.specs.CallLaws.{OneAnswer}
-use Rattle.language.specs.Calls.{Stand, over as at-end, enough, more}
+use Rattle.language.specs.Calls.{Stand, over as at_end, enough, more}
 use Rattle.language.specs.Code.{code}
 use Rattle.language.specs.CodeWords.{WordAt}
 use Rattle.language.specs.Configurations.{Configuration}
@@ -76,6 +76,6 @@ module _ (t : List Record) where
   beat_chain (beat m σ γ) = then σ (rest_chain γ)
 
   pub go_chain : (n m k : ℕ) (r u : Run Configuration) (b c : Standing) → ContinuationGoes t n r b m k u c → CodeChain t k r b u c
-  go_chain n m k r u b c at-end = still
+  go_chain n m k r u b c at_end = still
   go_chain n m k r u b c enough = still
   go_chain n m k r u b c (more {n = i} {m = j} {l = l} {r = v} {b' = d} e rest) = chains_on (beat_chain e) (go_chain i j l v u d c rest)

@@ -3,7 +3,7 @@
 use Rattle.std.proofs.Common.{◌≡◌, ℕ, ◌≤◌, true, List, ℤ, pos, sym, refl, subst, arith}
 use Rattle.bench.specs.declared.state.State.{State as Standing}
 use Rattle.language.specs.Beats.{steps}
-use Rattle.language.specs.Calls.{over as at-end, enough, more}
+use Rattle.language.specs.Calls.{over as at_end, enough, more}
 use Rattle.language.specs.Code.{code}
 use Rattle.language.specs.CodeWords.{WordAt}
 use Rattle.language.specs.Configurations.{Configuration}
@@ -29,7 +29,7 @@ pub simulation : Simulation
 simulation t ok s h v b b' r β = simulates t ok (WordAt (code t)) (code_word t ok) s h v b b' r β
 
 pub few_in_all : FewStepsInAll
-few_in_all t ok n m k r r' b b' at-end = (omega arith, omega arith)
+few_in_all t ok n m k r r' b b' at_end = (omega arith, omega arith)
 few_in_all t ok n m k r r' b b' enough = (omega arith, omega arith)
 few_in_all t ok n m k r r' b b' (more {n = i} {m = j} {k = o} {l = l} {s = s} {r = u} {b' = c} d rest) =
     let f = few_steps t ok s b c u d.0 in

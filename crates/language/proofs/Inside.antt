@@ -20,7 +20,7 @@ use Rattle.language.specs.declared.word.Word.{Word}
 use Rattle.language.proofs.CodeWords.{one_word, word_code}
 use Rattle.language.proofs.Following.{follow, some_step}
 use Rattle.language.proofs.Lists.{nth_below}
-use Rattle.language.proofs.NextStep.{step_at, one_operation, not_both as one-mark, rest_from}
+use Rattle.language.proofs.NextStep.{step_at, one_operation, not_both as one_mark, rest_from}
 use Rattle.language.proofs.OneCall.{same_some, not_both}
 
 -- the cell that an operation hands a value to is there
@@ -101,7 +101,7 @@ module _ (t : List Record) (ok : WellFormed t) where
   inside_more s z b c d k r g low σ = by g.going.follows g.whole g.few g.going.rest
     where
       by : {n : ℕ} {u : Run Configuration} {e : Standing} → FollowsRun t u → CodeBeat t s b (k + n) u e → k + n ≤ 18 → Rest At (running z) c n u e → Inside t s b (k + 1) r d
-      by f whole few (opens m) = one-mark At one m low
+      by f whole few (opens m) = one_mark At one m low
       by {u = u} {e = e} f whole few (small {n = n} m σ' γ) =
           let q : k + suc n ≡ k + 1 + n = omega arith in
           record {
@@ -114,7 +114,7 @@ module _ (t : List Record) (ok : WellFormed t) where
   inside_below s z b c k g low = by g.few g.going.rest
     where
       by : {n : ℕ} {u : Run Configuration} {e : Standing} → k + n ≤ 18 → Rest At (running z) c n u e → k < 18
-      by few (opens m) = one-mark At one m low
+      by few (opens m) = one_mark At one m low
       by few (small m σ γ) = omega arith
 
   -- at a word that opens a beat, or at an ending, the beat is made
@@ -123,7 +123,7 @@ module _ (t : List Record) (ok : WellFormed t) where
     where
       by : {n : ℕ} {u : Run Configuration} {e : Standing} → FollowsRun t u → CodeBeat t s b (k + n) u e → Rest At (running z) c n u e → CodeBeat t s b k (running z) c × Follows t z
       by f whole (opens m) = let q : k + 0 ≡ k = omega arith in (subst (λ i. CodeBeat t s b i (running z) c) q whole, f)
-      by f whole (small m σ γ) = one-mark At one high m
+      by f whole (small m σ γ) = one_mark At one high m
 
   pub inside_ends : (s : Configuration) (b c : Standing) (k : ℕ) (e : Ending) → Inside t s b k (ended e) c → CodeBeat t s b k (ended e) c
   inside_ends s b c k e g = by g.whole g.going.rest

@@ -5,6 +5,7 @@ use anyhow::anyhow;
 use script::{Expected, Line, Position, pair_text};
 use session::Section;
 use std::io::{BufRead, BufReader};
+use std::process::ExitCode;
 
 /// What has been read of a script.
 #[derive(Drop)]
@@ -79,10 +80,13 @@ fn run(rt: &HostRuntime) -> anyhow::Result<()> {
     script.finish(rt)
 }
 
-fn main(rt: HostRuntime) -> anyhow::Result<()> {
-    let done = run(&rt);
-    if let Err(error) = &done {
-        eprintln!(rt; "{error}")?;
+/// What cannot be read is told on standard error, once; the status is then 1.
+fn main(rt: HostRuntime) -> ExitCode {
+    match run(&rt) {
+        Ok(()) => ExitCode::SUCCESS,
+        Err(error) => {
+            let _ = eprintln!(rt; "{error}");
+            ExitCode::FAILURE
+        }
     }
-    done
 }

@@ -36,34 +36,34 @@ pub record Ordered (p : Position) (l : Line) (r : Result Position Expected) : Ty
 abbrev pub Guarded : Type 0 → Position → Position → Result Position Expected → Type 0
 Guarded G p q r = MatchResult r (λ s. G × (s ≡ q)) (λ e. (G → ⊥) × (e ≡ wanted p))
 
-by-guard : (G : Type 0) (p q : Position) (l : Line) (r : Result Position Expected) → (G → Next p l q) → ((s : Position) → Next p l s → G) → Guarded G p q r → Ordered p l r
-by-guard G p q l (Ok s) may must g = record { next = subst (Next p l) (sym g.1) (may g.0); wants = tt }
-by-guard G p q l (Err e) may must g = record { next = λ s n. g.0 (must s n); wants = g.1 }
+by_guard : (G : Type 0) (p q : Position) (l : Line) (r : Result Position Expected) → (G → Next p l q) → ((s : Position) → Next p l s → G) → Guarded G p q r → Ordered p l r
+by_guard G p q l (Ok s) may must g = record { next = subst (Next p l) (sym g.1) (may g.0); wants = tt }
+by_guard G p q l (Err e) may must g = record { next = λ s n. g.0 (must s n); wants = g.1 }
 
 pub begun : (p : Position) (l : Line) (k k' : Kind) (cs : List ℤ) → l ≡ Bench k k' cs → Next p l Opened
 begun p l k k' cs e = rw e begins
 
-only-turns : (p : Position) (z : ℤ) (s : Position) → Next p (Turn z) s → p ≡ Opened
-only-turns p z s turns = refl
+only_turns : (p : Position) (z : ℤ) (s : Position) → Next p (Turn z) s → p ≡ Opened
+only_turns p z s turns = refl
 
-only-loads : (p s : Position) → Next p Load s → Open p
-only-loads p s (loads o) = o
+only_loads : (p s : Position) → Next p Load s → Open p
+only_loads p s (loads o) = o
 
-only-jogs : (p : Position) (x : Request) (s : Position) → Next p (Jog x) s → Open p
-only-jogs p x s (jogs o) = o
+only_jogs : (p : Position) (x : Request) (s : Position) → Next p (Jog x) s → Open p
+only_jogs p x s (jogs o) = o
 
-only-ends : (p s : Position) → Next p State s → Open p
-only-ends p s (ends o) = o
+only_ends : (p s : Position) → Next p State s → Open p
+only_ends p s (ends o) = o
 
 module _ (p : Position) (l : Line) (r : Result Position Expected) where
   pub turned : (z : ℤ) → l ≡ Turn z → Guarded (p ≡ Opened) p Within r → Ordered p l r
-  turned z e g = subst (λ k. Ordered p k r) (sym e) (by-guard _ p Within (Turn z) r (λ f. rw f turns) (only-turns p z) g)
+  turned z e g = subst (λ k. Ordered p k r) (sym e) (by_guard _ p Within (Turn z) r (λ f. rw f turns) (only_turns p z) g)
 
   pub loaded : l ≡ Load → Guarded (Open p) p Within r → Ordered p l r
-  loaded e g = subst (λ k. Ordered p k r) (sym e) (by-guard _ p Within Load r loads (only-loads p) g)
+  loaded e g = subst (λ k. Ordered p k r) (sym e) (by_guard _ p Within Load r loads (only_loads p) g)
 
   pub jogged : (x : Request) → l ≡ Jog x → Guarded (Open p) p Within r → Ordered p l r
-  jogged x e g = subst (λ k. Ordered p k r) (sym e) (by-guard _ p Within (Jog x) r jogs (only-jogs p x) g)
+  jogged x e g = subst (λ k. Ordered p k r) (sym e) (by_guard _ p Within (Jog x) r jogs (only_jogs p x) g)
 
   pub ended : l ≡ State → Guarded (Open p) p Closed r → Ordered p l r
-  ended e g = subst (λ k. Ordered p k r) (sym e) (by-guard _ p Closed State r ends (only-ends p) g)
+  ended e g = subst (λ k. Ordered p k r) (sym e) (by_guard _ p Closed State r ends (only_ends p) g)

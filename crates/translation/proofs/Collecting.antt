@@ -12,7 +12,7 @@ use Rattle.language.proofs.Sizes.{length-translation, total_few}
 use Rattle.translation.specs.declared.addresses.Addresses.{Addresses}
 use Rattle.translation.specs.declared.context.Context.{Context}
 use Rattle.translation.specs.Addressing.{Addressed}
-use Rattle.translation.specs.Contexts.{start, context-at}
+use Rattle.translation.specs.Contexts.{start, context_at}
 use Rattle.translation.proofs.Passing.{Under, under_start, next}
 
 -- those of the first i records are known
@@ -35,7 +35,7 @@ total_front (line r n h x ∷ ls) (suc i) = let m = total_front ls i in omega ar
 pub address_below : (t : List Record) (i : ℕ) → address t i ≤ length (translation t)
 address_below t i = omega (arith, total_front (lines t) i, length-translation t)
 
-module _ (t : List Record) (i : ℕ) (c c' : Context) (x : Record) (under : Under t i c) (on : slice_get t i ≡ Some x) (at : c' ≡ context-at c x) where
+module _ (t : List Record) (i : ℕ) (c c' : Context) (x : Record) (under : Under t i c) (on : slice_get t i ≡ Some x) (at : c' ≡ context_at c x) where
   pub address_more : address t (i + 1) ≡ address t i + size c'.handler x
   address_more =
       let n = next t i c c' x under on at in
@@ -44,7 +44,7 @@ module _ (t : List Record) (i : ℕ) (c c' : Context) (x : Record) (under : Unde
   pub room : WellFormed t → address t i + size c'.handler x ≤ 976
   room w = omega (arith, address_more, total_front (lines t) (i + 1), total_few t w)
 
-pub one_more : (t : List Record) (i : ℕ) (c c' : Context) (x : Record) (os : List ℕ) (w s : ℕ) → Collected t i c os w → i < 256 → slice_get t i ≡ Some x → c' ≡ context-at c x → s ≡ size c'.handler x → Collected t (i + 1) c' (set os i w) (w + s)
+pub one_more : (t : List Record) (i : ℕ) (c c' : Context) (x : Record) (os : List ℕ) (w s : ℕ) → Collected t i c os w → i < 256 → slice_get t i ≡ Some x → c' ≡ context_at c x → s ≡ size c'.handler x → Collected t (i + 1) c' (set os i w) (w + s)
 one_more t i c c' x os w s f l on at e = record {
   under = (next t i c c' x f.under on at).under;
   wide = length-set os i w ∙ f.wide;

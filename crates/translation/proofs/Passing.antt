@@ -6,7 +6,7 @@ use Rattle.language.specs.declared.record.Record.TheVariants.{Routine, Block, Bo
 use Rattle.language.specs.Lines.{line, lines, lines_after}
 use Rattle.language.proofs.Lists.{clash}
 use Rattle.translation.specs.declared.context.Context.{Context}
-use Rattle.translation.specs.Contexts.{start, context-at}
+use Rattle.translation.specs.Contexts.{start, context_at}
 
 -- the records of t from place i on are in the context c
 pub record Under (t : List Record) (i : ℕ) (c : Context) : Type 0 where
@@ -33,10 +33,10 @@ pub record Next (t : List Record) (i : ℕ) (c : Context) (x : Record) : Type 0 
   pub here : slice_get (lines t) i ≡ Some (line c.routine n c.handler x)
   pub under : Under t (i + 1) c
 
-pub next : (t : List Record) (i : ℕ) (c c' : Context) (x : Record) → Under t i c → slice_get t i ≡ Some x → c' ≡ context-at c x → Next t i c' x
+pub next : (t : List Record) (i : ℕ) (c c' : Context) (x : Record) → Under t i c → slice_get t i ≡ Some x → c' ≡ context_at c x → Next t i c' x
 next t i c c' x u e d = by x (drop_nth t i x e) d
   where
-    by : (x : Record) → drop i t ≡ x ∷ drop (suc i) t → c' ≡ context-at c x → Next t i c' x
+    by : (x : Record) → drop i t ≡ x ∷ drop (suc i) t → c' ≡ context_at c x → Next t i c' x
     by (Routine g p q) f d =
         let k = nth_drop (lines t) _ i (line g (p + q) None (Routine g p q)) (u.rest ∙ ap (lines_after c.routine u.n c.handler) f) in
         rw d (record { n = p + q; here = k.0; under = record { n = p + q; rest = rw add-one k.1 } })

@@ -9,7 +9,7 @@ use Rattle.language.proofs.Lists.{clash}
 use Rattle.language.proofs.Lines.{length-lines}
 use Rattle.translation.specs.declared.context.Context.{Context}
 use Rattle.translation.specs.Buffers.{over, Appends}
-use Rattle.translation.specs.Contexts.{start, context-at}
+use Rattle.translation.specs.Contexts.{start, context_at}
 use Rattle.translation.proofs.Appending.{none_appends, then_appends}
 use Rattle.translation.proofs.Collecting.{address_more, address_below}
 use Rattle.translation.proofs.Passing.{Under, under_start, next}
@@ -35,7 +35,7 @@ pub record Tabled (t : List Record) (i : ℕ) (c : Context) (at : ℕ) (out out'
 pub tabled_start : (t : List Record) (c : Context) (out : List ℕ) → c ≡ start → Tabled t 0 c 0 out out
 tabled_start t c out e = record { under = under_start t c e; place = refl; appends = none_appends 0 out }
 
-module _ (t : List Record) (i : ℕ) (c c' : Context) (x : Record) (at : ℕ) (out out' : List ℕ) (so_far : Tabled t i c at out out') (on : slice_get t i ≡ Some x) (is : c' ≡ context-at c x) where
+module _ (t : List Record) (i : ℕ) (c c' : Context) (x : Record) (at : ℕ) (out out' : List ℕ) (so_far : Tabled t i c at out out') (on : slice_get t i ≡ Some x) (is : c' ≡ context_at c x) where
   pub record_room : (n : ℕ) → 8 * length (translation t) ≤ n → at + 8 * size c'.handler x ≤ n
   record_room n l = omega (arith, so_far.place, address_more t i c c' x so_far.under on is, address_below t (i + 1))
 

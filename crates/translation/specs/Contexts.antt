@@ -7,7 +7,7 @@ use Rattle.translation.specs.declared.context.Context.{Context}
 abbrev pub start : Context
 start = record { routine = 0; handler = None }
 
-abbrev pub context-at : Context → Record → Context
-context-at c (Routine identifier parameters locals) = record { routine = identifier; handler = None }
-context-at c (Block label handler) = record { routine = c.routine; handler = handler }
-context-at c (Body i) = c
+abbrev pub context_at : Context → Record → Context
+context_at c (Routine identifier parameters locals) = record { routine = identifier; handler = None }
+context_at c (Block label handler) = record { routine = c.routine; handler = handler }
+context_at c (Body i) = c

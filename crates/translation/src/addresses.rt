@@ -1,5 +1,5 @@
 ghost use Rattle.std.specs.Prelude.{◌≡◌};
-ghost use Rattle.language.specs.Translation.{jumps as jumps-of, size as type_size};
+ghost use Rattle.language.specs.Translation.{jumps as jumps_of, size as size_in_words};
 ghost use Rattle.language.specs.WellFormed.{WellFormed};
 ghost use Rattle.translation.specs.Addressing.{Addressed};
 
@@ -34,7 +34,7 @@ pub fn find_addresses(records: &[Record]) -> Addresses
 
 /// How many words a record becomes under a handler.
 fn size(handler: Option<Handler>, of: Record) -> u16
-    ensures { result ≡ type_size handler «of» }
+    ensures { result ≡ size_in_words handler «of» }
 {
     match of {
         Record::Routine { locals, .. } => u16::from(locals),
@@ -51,7 +51,7 @@ fn size(handler: Option<Handler>, of: Record) -> u16
 
 /// One word more where there is a handler to jump to.
 fn jumps(handler: Option<Handler>) -> u16
-    ensures { result ≡ jumps-of handler }
+    ensures { result ≡ jumps_of handler }
 {
     match handler {
         Some(_) => 1,

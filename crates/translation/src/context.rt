@@ -1,5 +1,5 @@
 ghost use Rattle.std.specs.Prelude.{◌≡◌};
-ghost use Rattle.translation.specs.Contexts.{start, context-at};
+ghost use Rattle.translation.specs.Contexts.{start, context_at};
 
 use language::{Handler, Record};
 
@@ -23,7 +23,7 @@ impl Context {
 
     /// That of the next record; a heading is in the block that it opens.
     pub fn at(self, next: Record) -> Context
-        ensures { result ≡ context-at self next }
+        ensures { result ≡ context_at self next }
     {
         match next {
             Record::Routine { identifier, .. } => Context {

@@ -1,5 +1,5 @@
 ghost use Rattle.std.specs.Prelude.{◌≡◌, ◌+◌, ◌/◌, ◌%◌, ◌∷◌, if◌then◌else◌};
-ghost use Rattle.language.specs.Code.{letter as letter-of, word_bytes};
+ghost use Rattle.language.specs.Code.{letter as letter_of, word_bytes};
 
 use language::{Operation, Word};
 
@@ -50,7 +50,7 @@ fn enter_bytes(kind: u8, count: u8, address: u16, arguments: [u8; 4]) -> [u8; 8]
 
 /// The letter of a word.
 fn letter(word: Word) -> u8
-    ensures { result ≡ (if word.opens then letter-of word.operation else letter-of word.operation + 32) }
+    ensures { result ≡ (if word.opens then letter_of word.operation else letter_of word.operation + 32) }
 {
     if word.opens {
         capital(word.operation)
@@ -61,7 +61,7 @@ fn letter(word: Word) -> u8
 
 /// The capital letter of an operation.
 fn capital(operation: Operation) -> u8
-    ensures { result ≡ letter-of operation }
+    ensures { result ≡ letter_of operation }
 {
     match operation {
         Operation::Set { .. } => b'C',

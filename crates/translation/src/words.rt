@@ -1,5 +1,5 @@
 ghost use Rattle.std.specs.Prelude.{◌≡◌};
-ghost use Rattle.language.specs.Translation.{capital as capital-word, small as small_word, instruction_words};
+ghost use Rattle.language.specs.Translation.{capital as capital_word, small as small_word, instruction_words};
 ghost use Rattle.language.specs.declared.instruction.Instruction.TheVariants.{Request, Call, Raise};
 ghost use Rattle.table.specs.Checked.{records_of};
 ghost use Rattle.translation.specs.Addressing.{Addressed};
@@ -157,7 +157,7 @@ fn translate_raise(table: &Table, addresses: &Addresses, context: Context, x: u8
 
 /// A word that opens a beat.
 fn capital(operation: Operation) -> Word
-    ensures { result ≡ capital-word operation }
+    ensures { result ≡ capital_word operation }
 {
     Word {
         opens: true,
