@@ -1,5 +1,5 @@
 -- One event at a time: what is answered is what the rules say, and only that.
-use Rattle.std.proofs.Common.{◌≡◌, ℕ, List, vec_items, Vec, sym, refl, ap, subst}
+use Rattle.std.proofs.Common.{◌≡◌, ℕ, List, get_or, vec_items, Vec, sym, refl, ap, subst}
 use Rattle.std.specs.declared.alloc.Global.{Global}
 use Rattle.bench.specs.Histories.{Deterministic}
 use Rattle.bench.specs.Responds.{Answer as Reply, Responds}
@@ -19,6 +19,10 @@ use Rattle.session.specs.declared.event.Event.TheVariants.{Load, Jog}
 -- one event is another
 pub event_is : (s t : Standing) (e d : Event) (a : Answer) → e ≡ d → Does s e a t → Does s d a t
 event_is s t e d a is h = subst (λ x. Does s x a t) is h
+
+-- the event that was given stands at a place of the list
+pub event_at : (s t : Standing) (es : List Event) (i : ℕ) (e : Event) (a : Answer) → Does s e a t → e ≡ get_or es i e → Does s (get_or es i e) a t
+event_at s t es i e a h is = event_is s t e (get_or es i e) a is h
 
 pub accepted : (s : Standing) (e : Event) (v : Vec ℕ Global) (bs : List ℕ) → e ≡ Load v → bs ≡ vec_items v → WellFormedBytes bs → Does s e Done s
 accepted s e v bs is same h = event_is s s (Load v) e Done (sym is) (accepts (subst WellFormedBytes same h))

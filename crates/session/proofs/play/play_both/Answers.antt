@@ -3,7 +3,7 @@ use Rattle.bench.specs.Histories.History.{done}
 use Rattle.bench.proofs.Histories.{history_more, history_all, agreement, dropped_more, dropped_on}
 use Rattle.session.specs.Events.{Does}
 use Rattle.session.specs.declared.exchange.Exchange.{Exchange}
-use Rattle.session.proofs.Playing.{event_is, one_answer}
+use Rattle.session.proofs.Playing.{event_at, one_answer}
 use Rattle.session.proofs.play.play_both.Goals as goal
 
 pub loop-i-init : goal.loop-i-init
@@ -14,13 +14,12 @@ loop-i-preserved g c =
     let es = c.args.events.now in
     let slots = c.loop-i.slots in
     let i = c.loop-i.i in
-    let e = c.index-events-i.result in
     let x : Exchange = record { first = c.answer.result; second = c.answer-in-loop-i.result } in
     let he : i < length es = search rules in
     let hs : i < length slots = search rules in (
       length-set slots i x ∙ c.loop-i.invariant.0,
-      history_more Does (λ y. y.first) es slots i e x _ _ _ he hs c.loop-i.invariant.1 (event_is _ _ _ _ _ c.index-events-i.is c.answer.ensures),
-      history_more Does (λ y. y.second) es slots i e x _ _ _ he hs c.loop-i.invariant.2 (event_is _ _ _ _ _ c.index-events-i.is c.answer-in-loop-i.ensures),
+      history_more Does (λ y. y.first) es slots i _ x _ _ _ he hs c.loop-i.invariant.1 (event_at _ _ es i _ _ c.answer.ensures (search rules)),
+      history_more Does (λ y. y.second) es slots i _ x _ _ _ he hs c.loop-i.invariant.2 (event_at _ _ es i _ _ c.answer-in-loop-i.ensures (search rules)),
       dropped_more slots c.args.slots.now i x c.loop-i.invariant.3,
     )
 
