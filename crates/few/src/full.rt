@@ -1,0 +1,3 @@
+/// Every place is taken.
+#[derive(Clone, Copy, PartialEq, Eq, Debug)]
+pub struct Full;

@@ -1,0 +1,9 @@
+//! A list of at most so many values, in memory of a fixed size: what the machine's stated bounds are
+//! kept in, its records, headings, frames, cells and placements.
+#![tactic(auto)]
+
+pub mod few;
+pub mod full;
+
+pub use few::Few;
+pub use full::Full;
