@@ -4,8 +4,10 @@
 ghost use Rattle.std.specs.Prelude.{◌≡◌, ◌≤◌, map, length, slice_set};
 ghost use Rattle.language.specs.Runs.{variable_count, value, difference, with_arguments};
 
+use std::array;
+
 /// The sixteen variables of a routine.
-#[derive(Clone, Copy)]
+#[derive(Clone, Copy, PartialEq, Eq, Debug)]
 pub struct Variables {
     values: [i32; 16],
     ghost long: { length values ≡ variable_count },
@@ -20,11 +22,9 @@ impl Variables {
         requires { length arguments.now ≤ variable_count }
         ensures { result.values ≡ with_arguments arguments.now }
     {
-        let mut values = [0; 16];
-        for (place, argument) in arguments.iter().enumerate() {
-            values[place] = *argument;
+        Variables {
+            values: array::from_fn(|place| arguments.get(place).copied().unwrap_or(0)),
         }
-        Variables { values }
     }
 
     /// Those of a routine that is called with the values of these variables.
@@ -32,21 +32,16 @@ impl Variables {
         requires { length arguments.now ≤ variable_count }
         ensures { result.values ≡ with_arguments (map (value self.now.values) arguments.now) }
     {
-        let mut values = [0; 16];
-        for (place, argument) in arguments.iter().enumerate() {
-            values[place] = self.get(*argument);
+        Variables {
+            values: array::from_fn(|place| arguments.get(place).map_or(0, |x| self.get(*x))),
         }
-        Variables { values }
     }
 
     /// The value of a variable; 0 where there is none of that number.
     pub fn get(&self, x: u8) -> i32
         ensures { result ≡ value self.now.values x }
     {
-        match self.values.get(usize::from(x)) {
-            Some(value) => *value,
-            None => 0,
-        }
+        self.values.get(usize::from(x)).copied().unwrap_or(0)
     }
 
     /// The difference of two variables, cut to 32 bits.
@@ -60,9 +55,8 @@ impl Variables {
     pub fn set(&mut self, x: u8, value: i32)
         ensures { self.new.values ≡ slice_set self.old.values x value }
     {
-        let place = usize::from(x);
-        if place < 16 {
-            self.values[place] = value;
+        if let Some(place) = self.values.get_mut(usize::from(x)) {
+            *place = value;
         }
     }
 }
