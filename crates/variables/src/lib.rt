@@ -4,8 +4,6 @@
 ghost use Rattle.std.specs.Prelude.{◌≡◌, ◌≤◌, map, length, slice_set};
 ghost use Rattle.language.specs.Runs.{variable_count, value, difference, with_arguments};
 
-use std::array;
-
 /// The sixteen variables of a routine.
 #[derive(Clone, Copy, PartialEq, Eq, Debug)]
 pub struct Variables {
@@ -22,9 +20,9 @@ impl Variables {
         requires { length arguments.now ≤ variable_count }
         ensures { result.values ≡ with_arguments arguments.now }
     {
-        Variables {
-            values: array::from_fn(|place| arguments.get(place).copied().unwrap_or(0)),
-        }
+        let mut values = [0; 16];
+        values[..arguments.len()].copy_from_slice(arguments);
+        Variables { values }
     }
 
     /// Those of a routine that is called with the values of these variables.
@@ -32,9 +30,12 @@ impl Variables {
         requires { length arguments.now ≤ variable_count }
         ensures { result.values ≡ with_arguments (map (value self.now.values) arguments.now) }
     {
-        Variables {
-            values: array::from_fn(|place| arguments.get(place).map_or(0, |x| self.get(*x))),
+        let mut values = [0; 16];
+        // by place: over `iter_mut().zip(..)` and by `array::from_fn` the proof did not close
+        for (place, argument) in arguments.iter().enumerate() {
+            values[place] = self.get(*argument);
         }
+        Variables { values }
     }
 
     /// The value of a variable; 0 where there is none of that number.
@@ -55,8 +56,9 @@ impl Variables {
     pub fn set(&mut self, x: u8, value: i32)
         ensures { self.new.values ≡ slice_set self.old.values x value }
     {
-        if let Some(place) = self.values.get_mut(usize::from(x)) {
-            *place = value;
+        let place = usize::from(x);
+        if place < self.values.len() {
+            self.values[place] = value;
         }
     }
 }
