@@ -29,9 +29,11 @@ returns-in-Err-clause-calls g c =
     let s = state_of c.args.self.now.machine in
     let x : Stand State = record { table = Some (records_in c.args.program.now); run = Some (run_at c.args.self.now); bench = g.B.Bench.state c.args.bench.now } in
     let start : x.run ≡ Some (ended c.in-Err.ending) = ap (λ v. Some (progressed v s)) c.in-Err.is in
-    let told : Gone = record { progress = Err c.in-Err.ending; beats = 0 } in
-    (0, subst (λ r. DirectCalls x (go c.args.count) (go_answer (Ok told) 0) (record { table = x.table; run = r; bench = x.bench })) (sym start)
-        (by_go x (records_in c.args.program.now) (ended c.in-Err.ending) c.args.count c.in_ok-most.most refl start asked told s x.bench 0 over))
+    let told : Gone = record { progress = Err c.in-Err.ending; beats = 0 } in (
+      0,
+      subst (λ r. DirectCalls x (go c.args.count) (go_answer (Ok told) 0) (record { table = x.table; run = r; bench = x.bench })) (sym start)
+          (by_go x (records_in c.args.program.now) (ended c.in-Err.ending) c.args.count c.in_ok-most.most refl start asked told s x.bench 0 over),
+    )
 
 reached : (g : given.Over) (c : In_default g) → Reachable (records_in c.args.program.now) (state_of c.args.self.now.machine)
 reached g c = subst (λ v. ReachableRun (records_in c.args.program.now) (progressed v (state_of c.args.self.now.machine))) c.in_default.is c.requires
