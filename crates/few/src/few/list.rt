@@ -19,7 +19,7 @@ impl<T: Copy, const N: usize> Few<T, N> {
     pub fn len(&self) -> usize
         ensures { result ≡ length (held self.now) }
     {
-        self.count
+        self.as_slice().len()
     }
 
     /// The values, in the order in which they came.

@@ -14,6 +14,9 @@ use super::words::small;
 use language::{Operation, Record, Word};
 use scopes::Scope;
 
+// the buffer and the place in it go side by side: a struct that held both would have to promise, in each
+// of its methods, that it still holds the same `&mut`, of the same length
+
 /// Writes one word at a place, and gives the place after it.
 fn put(out: &mut [u8], at: usize, word: Word) -> usize
     requires { at + 8 ≤ length out.old }
