@@ -1,9 +1,18 @@
 ghost use Rattle.std.specs.Prelude.{◌≡◌};
 ghost use Rattle.bench.specs.Reading.{read_under};
 
-use super::{Angle, FULL_TURN};
+use super::Below;
 
-impl Angle {
+/// Hundredths of a degree in a full turn.
+pub const FULL_TURN: u16 = 36_000;
+
+/// An angle in hundredths of a degree, less than a full turn.
+pub type Angle = Below<FULL_TURN>;
+
+impl Below<FULL_TURN> {
+    /// The angle of a new bench.
+    pub const ZERO: Angle = Below { value: 0 };
+
     /// This angle as it reads from the other side of the board, under a shift. Reading twice under
     /// one shift gives the angle back, so the same call also asks for an angle from there.
     pub fn read_under(self, shift: Angle) -> Angle
@@ -11,8 +20,8 @@ impl Angle {
         ensures twice { read_under shift result ≡ self }
     {
         let turn = FULL_TURN as u32;
-        Angle {
-            hundredths: ((shift.hundredths as u32 + turn - self.hundredths as u32) % turn) as u16,
+        Below {
+            value: ((shift.value as u32 + turn - self.value as u32) % turn) as u16,
         }
     }
 }
