@@ -1,13 +1,13 @@
 -- What a go tells of where a run is.
+use Rattle.std.specs.Prelude.{Result, Ok, Err}
 use Rattle.language.specs.Runs.{Run, running, ended}
-use Rattle.language.specs.declared.progress.Progress.{Progress}
-use Rattle.language.specs.declared.progress.Progress.TheVariants.{Running, Ended}
+use Rattle.language.specs.declared.ending.Ending.{Ending}
 
 -- a run that has come so far; s is its state, if it has not ended
-abbrev pub progressed : {S : Type 0} → Progress → S → Run S
-progressed Running s = running s
-progressed (Ended e) s = ended e
+abbrev pub progressed : {S : Type 0} → Result (Unit {0}) Ending → S → Run S
+progressed (Ok d) s = running s
+progressed (Err e) s = ended e
 
 -- all that is told of a run
-abbrev pub run_of : Progress → Run (Unit {0})
+abbrev pub run_of : Result (Unit {0}) Ending → Run (Unit {0})
 run_of p = progressed p tt

@@ -1,11 +1,13 @@
 ghost use Rattle.language.specs.Asked.{Asked};
 
+/// The most beats of one go.
+const MOST_BEATS: u32 = 100_000;
+
 /// How many beats a go is asked for, if that is a number of beats: 0 to 100,000.
 pub fn beats_asked(count: i32) -> Option<u32>
     ensures { Asked count result }
 {
-    if count < 0 || count > 100_000 {
-        return None;
-    }
-    Some(count as u32)
+    u32::try_from(count)
+        .ok()
+        .filter(|beats| *beats <= MOST_BEATS)
 }

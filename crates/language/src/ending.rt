@@ -1,5 +1,5 @@
 /// How a run ends.
-#[derive(Clone, Copy)]
+#[derive(Clone, Copy, PartialEq, Eq, Debug)]
 pub enum Ending {
     /// The outermost routine returned this value.
     Returned(i32),

@@ -1,6 +1,6 @@
 /// One of the nine forms. Variables are `x`, `y`, `z`, by number, the parameters first; the last
 /// four forms close a block.
-#[derive(Clone, Copy)]
+#[derive(Clone, Copy, PartialEq, Eq, Debug)]
 pub enum Instruction {
     /// Sets `x` to `value`.
     Constant {

@@ -1,6 +1,6 @@
 /// What a word of continuation form does. `x`, `y`, `z` are variables by number; beside them there is
 /// one register more, number 16. An address is that of a word.
-#[derive(Clone, Copy)]
+#[derive(Clone, Copy, PartialEq, Eq, Debug)]
 pub enum Operation {
     /// `C`: sets `x` to `value`.
     Set {

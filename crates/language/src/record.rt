@@ -3,7 +3,7 @@ use super::instruction::Instruction;
 
 /// A record of a table: the heading of a routine or of a block, or an instruction in a block's body.
 /// A routine's heading opens its entry block too, which has no label and no handler.
-#[derive(Clone, Copy)]
+#[derive(Clone, Copy, PartialEq, Eq, Debug)]
 pub enum Record {
     Routine {
         identifier: u8,

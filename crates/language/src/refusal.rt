@@ -1,44 +1,20 @@
-ghost use Rattle.std.specs.Prelude.{◌≡◌};
-ghost use Rattle.language.specs.Refused.{start_number, go_number};
+mod go;
+mod start;
 
-/// Why a run is not started.
-#[derive(Clone, Copy)]
+/// Why a run is not started. Its value is the number that it is known by outside.
+#[derive(Clone, Copy, PartialEq, Eq, Debug)]
 pub enum StartRefusal {
     /// No table is loaded.
-    NoTable,
+    NoTable = 20,
     /// Routine 0 takes another number of arguments.
-    ArgumentCount,
+    ArgumentCount = 21,
 }
 
-impl StartRefusal {
-    /// The number that the refusal is known by outside.
-    pub fn number(self) -> i32
-        ensures { result ≡ start_number self }
-    {
-        match self {
-            StartRefusal::NoTable => 20,
-            StartRefusal::ArgumentCount => 21,
-        }
-    }
-}
-
-/// Why a run does not go on.
-#[derive(Clone, Copy)]
+/// Why a run does not go on. Its value is the number that it is known by outside.
+#[derive(Clone, Copy, PartialEq, Eq, Debug)]
 pub enum GoRefusal {
     /// No run is started.
-    NoRun,
+    NoRun = 22,
     /// The number of beats is below 0 or above 100,000.
-    BeatCount,
-}
-
-impl GoRefusal {
-    /// The number that the refusal is known by outside.
-    pub fn number(self) -> i32
-        ensures { result ≡ go_number self }
-    {
-        match self {
-            GoRefusal::NoRun => 22,
-            GoRefusal::BeatCount => 23,
-        }
-    }
+    BeatCount = 23,
 }

@@ -5,26 +5,14 @@ use Rattle.language.specs.declared.handler.Handler.{Handler}
 use Rattle.language.specs.declared.instruction.Instruction.{Instruction}
 use Rattle.language.specs.declared.record.Record.{Record}
 use Rattle.language.specs.declared.record.Record.TheVariants.{Routine, Block, Body}
-use Rattle.language.specs.Lines.{line, lines, lines_after}
-use Rattle.language.proofs.Lists.{clash}
+use Rattle.language.specs.Lines.{line, lines}
 use Rattle.language.proofs.Lines.{length-lines}
-use Rattle.table.specs.declared.scope.Scope.{Scope}
+use Rattle.scopes.specs.declared.scope.Scope.{Scope}
 use Rattle.table.specs.declared.entries.RoutineEntry.{RoutineEntry}
 use Rattle.table.specs.declared.entries.BlockEntry.{BlockEntry}
+use Rattle.scopes.proofs.Scoped.{drop_nth, Under, under_start, Lined, under_next}
 use Rattle.table.specs.Entries.{kept, picked, routine_entry, block_entry, routine_entries, block_entries}
-use Rattle.table.specs.Scopes.{nowhere, scope_at}
-
--- what is left from a place on begins with what stands there
-pub drop_nth : {X : Type 0} (xs : List X) (p : ℕ) (x : X) → slice_get xs p ≡ Some x → drop p xs ≡ x ∷ drop (suc p) xs
-drop_nth [] p x e = clash (cc)
-drop_nth (y ∷ xs) zero x e = let w : y ≡ x = cc in ap (λ v. v ∷ xs) w
-drop_nth (y ∷ xs) (suc p) x e = drop_nth xs p x e
-
-nth_drop : {X : Type 0} (xs : List X) (p : ℕ) (y : X) (ys : List X) → drop p xs ≡ y ∷ ys → (slice_get xs p ≡ Some y) × (drop (suc p) xs ≡ ys)
-nth_drop [] zero y ys e = clash (cc)
-nth_drop [] (suc p) y ys e = clash (cc)
-nth_drop (x ∷ xs) zero y ys e = (cc, cc)
-nth_drop (x ∷ xs) (suc p) y ys e = nth_drop xs p y ys e
+use Rattle.scopes.specs.Scopes.{nowhere, scope_at}
 
 drop_past : {X : Type 0} (xs : List X) (p : ℕ) → length xs ≤ p → drop p xs ≡ []
 drop_past [] zero l = refl
@@ -61,35 +49,6 @@ module _ {X E : Type 0} (pick : ℕ → X → Option E) (xs : List X) where
         let m = length-append es (e ∷ picked pick (suc p) (drop (suc p) xs)) in
         omega arith
 
--- the lines from p on are those of the records from p on, under s
-pub record Under (t : List Record) (p : ℕ) (s : Scope) : Type 0 where
-  pub handler : Option Handler
-  pub rest : lines_after s.routine s.variables handler (drop p t) ≡ drop p (lines t)
-
-pub under_start : (t : List Record) → Under t 0 nowhere
-under_start t = record { handler = None; rest = refl }
-
--- the record at p has its line under the scope that it stands in
-pub record Lined (t : List Record) (p : ℕ) (s : Scope) (x : Record) : Type 0 where
-  pub handler : Option Handler
-  pub is : slice_get (lines t) p ≡ Some (line s.routine s.variables handler x)
-
-module _ (t : List Record) (p : ℕ) (s : Scope) (far : Under t p s) where
-  after : (x : Record) (s' : Scope) (h : Option Handler) → lines_after s.routine s.variables far.handler (x ∷ drop (suc p) t) ≡ line s'.routine s'.variables h x ∷ lines_after s'.routine s'.variables h (drop (suc p) t) →
-      slice_get t p ≡ Some x → Under t (p + 1) s' × Lined t p s' x
-  after x s' h e is =
-      let d = drop_nth t p x is in
-      let r = far.rest in
-      let all : drop p (lines t) ≡ line s'.routine s'.variables h x ∷ lines_after s'.routine s'.variables h (drop (suc p) t) =
-      sym r ∙ ap (lines_after s.routine s.variables far.handler) d ∙ e in
-      let at = nth_drop (lines t) p _ _ all in
-      (subst (λ v. Under t v s') (sym (add-one p)) (record { handler = h; rest = sym at.1 }), record { handler = h; is = at.0 })
-
-  pub under_more : (x : Record) → slice_get t p ≡ Some x → Under t (p + 1) (scope_at s x) × Lined t p (scope_at s x) x
-  under_more (Routine g a b) is = after (Routine g a b) (scope_at s (Routine g a b)) None refl is
-  under_more (Block l k) is = after (Block l k) s k refl is
-  under_more (Body i) is = after (Body i) s far.handler refl is
-
 -- what the loop over the records keeps
 pub record Sofar (t : List Record) (p : ℕ) (s : Scope) (rs : List RoutineEntry) (bs : List BlockEntry) : Type 0 where
   pub under : Under t p s
@@ -98,7 +57,7 @@ pub record Sofar (t : List Record) (p : ℕ) (s : Scope) (rs : List RoutineEntry
 
 pub start : (t : List Record) (s : Scope) (rs : List RoutineEntry) (bs : List BlockEntry) → s ≡ nowhere → rs ≡ [] → bs ≡ [] → Sofar t 0 s rs bs
 start t s rs bs es er eb = record {
-  under = subst (Under t 0) (sym es) (under_start t);
+  under = under_start t s es;
   routines = subst (λ v. Picked routine_entry t v 0) (sym er) (picked_start routine_entry t);
   blocks = subst (λ v. Picked block_entry (lines t) v 0) (sym eb) (picked_start block_entry (lines t));
 }
@@ -106,38 +65,38 @@ start t s rs bs es er eb = record {
 module _ (t : List Record) (p : ℕ) (s : Scope) (rs : List RoutineEntry) (bs : List BlockEntry) (far : Sofar t p s rs bs)
     (x : Record) (is : slice_get t p ≡ Some x) (s' : Scope) (at : s' ≡ scope_at s x) where
   now_under : Under t (p + 1) s'
-  now_under = subst (Under t (p + 1)) (sym at) (under_more t p s far.under x is).0
+  now_under = (under_next t p s far.under x s' is at).0
 
   lined : Lined t p s' x
-  lined = subst (λ v. Lined t p v x) (sym at) (under_more t p s far.under x is).1
+  lined = (under_next t p s far.under x s' is at).1
 
   module _ (rs' : List RoutineEntry) (bs' : List BlockEntry) where
     pub more_routine : (a b c : ℕ) → x ≡ Routine a b c → rs' ≡ rs ++ record { identifier = a; parameters = b; place = p } ∷ [] → bs' ≡ bs → Sofar t (p + 1) s' rs' bs'
     more_routine a b c e er eb = record {
       under = now_under;
       routines = subst (λ v. Picked routine_entry t v (p + 1)) (sym er) (picked_one routine_entry t rs p far.routines x is _ (ap (routine_entry p) e));
-      blocks = subst (λ v. Picked block_entry (lines t) v (p + 1)) (sym eb) (picked_none block_entry (lines t) bs p far.blocks _ lined.is (ap (λ v. block_entry p (line s'.routine s'.variables lined.handler v)) e));
+      blocks = subst (λ v. Picked block_entry (lines t) v (p + 1)) (sym eb) (picked_none block_entry (lines t) bs p far.blocks _ lined.is (ap (λ v. block_entry p (line s'.routine s'.variables s'.handler v)) e));
     }
 
     pub more_block : (l : ℕ) (k : Option Handler) → x ≡ Block l k → rs' ≡ rs → bs' ≡ bs ++ record { key = record { routine = s'.routine; label = l }; place = p } ∷ [] → Sofar t (p + 1) s' rs' bs'
     more_block l k e er eb = record {
       under = now_under;
       routines = subst (λ v. Picked routine_entry t v (p + 1)) (sym er) (picked_none routine_entry t rs p far.routines x is (ap (routine_entry p) e));
-      blocks = subst (λ v. Picked block_entry (lines t) v (p + 1)) (sym eb) (picked_one block_entry (lines t) bs p far.blocks _ lined.is _ (ap (λ v. block_entry p (line s'.routine s'.variables lined.handler v)) e));
+      blocks = subst (λ v. Picked block_entry (lines t) v (p + 1)) (sym eb) (picked_one block_entry (lines t) bs p far.blocks _ lined.is _ (ap (λ v. block_entry p (line s'.routine s'.variables s'.handler v)) e));
     }
 
     pub more_body : (i : Instruction) → x ≡ Body i → rs' ≡ rs → bs' ≡ bs → Sofar t (p + 1) s' rs' bs'
     more_body i e er eb = record {
       under = now_under;
       routines = subst (λ v. Picked routine_entry t v (p + 1)) (sym er) (picked_none routine_entry t rs p far.routines x is (ap (routine_entry p) e));
-      blocks = subst (λ v. Picked block_entry (lines t) v (p + 1)) (sym eb) (picked_none block_entry (lines t) bs p far.blocks _ lined.is (ap (λ v. block_entry p (line s'.routine s'.variables lined.handler v)) e));
+      blocks = subst (λ v. Picked block_entry (lines t) v (p + 1)) (sym eb) (picked_none block_entry (lines t) bs p far.blocks _ lined.is (ap (λ v. block_entry p (line s'.routine s'.variables s'.handler v)) e));
     }
 
   pub room_routine : (a b c : ℕ) → x ≡ Routine a b c → length rs < length (routine_entries t)
   room_routine a b c e = picked_room routine_entry t rs p far.routines x is _ (ap (routine_entry p) e)
 
   pub room_block : (l : ℕ) (k : Option Handler) → x ≡ Block l k → length bs < length (block_entries t)
-  room_block l k e = picked_room block_entry (lines t) bs p far.blocks _ lined.is _ (ap (λ v. block_entry p (line s'.routine s'.variables lined.handler v)) e)
+  room_block l k e = picked_room block_entry (lines t) bs p far.blocks _ lined.is _ (ap (λ v. block_entry p (line s'.routine s'.variables s'.handler v)) e)
 
 module _ (t : List Record) (p : ℕ) (s : Scope) (rs : List RoutineEntry) (bs : List BlockEntry) (far : Sofar t p s rs bs) (all : length t ≤ p) where
   pub all_routines : rs ≡ routine_entries t

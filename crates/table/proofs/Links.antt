@@ -1,6 +1,7 @@
 -- What is looked up among the entries of a table is what its records say.
 use Rattle.std.proofs.Common.{◌≡◌, ℕ, suc, ◌+◌, Bool, true, false, ◌⊎◌, List, [], ◌∷◌, get_or, Some, None, Option, sym, refl, ap, ◌∙◌, inl, inr, arith}
 use Rattle.std.specs.List.{slice_get}
+use Rattle.std.specs.Option.{option_map}
 use Rattle.std.proofs.lemmas.Option.{slice_get-get_or}
 use Rattle.language.specs.declared.record.Record.{Record}
 use Rattle.language.specs.declared.record.Record.TheVariants.{Routine, Block, Body}
@@ -11,7 +12,7 @@ use Rattle.language.proofs.Lists.{clash, nth_below, place_in}
 use Rattle.language.proofs.Lines.{routine_of, BlockOf, block_of}
 use Rattle.table.specs.declared.entries.RoutineEntry.{RoutineEntry}
 use Rattle.table.specs.declared.entries.BlockEntry.{BlockEntry}
-use Rattle.table.specs.Entries.{picked, routine_entry, block_entry, routine_entries, block_entries, of_routine, of_block, routine_placed, block_placed, routine_at_of, block_at, no_routine_entry, no_block_entry}
+use Rattle.table.specs.Entries.{picked, routine_entry, block_entry, routine_entries, block_entries, of_routine, of_block, entry_at, routine_found, block_found, routine_at_of, block_at, no_routine_entry, no_block_entry}
 use Rattle.table.specs.Names.{Unknown, Misfit}
 
 -- a test of entries that says what a test of the elements does that they are picked from
@@ -113,9 +114,16 @@ module _ (g : ℕ) where
   pub routine_at_is : (t : List Record) → routine_at_of (routine_entries t) g ≡ routine_place t g
   routine_at_is t = by (routine_linked t)
     where
+      found : Option ℕ → Option ℕ
+      found o = option_map (λ (e : RoutineEntry). e.place) (entry_at no_routine_entry (routine_entries t) o)
+
       by : NoSuchRoutine t ⊎ FoundRoutine t → routine_at_of (routine_entries t) g ≡ routine_place t g
-      by (inl n) = ap (routine_placed (routine_entries t)) n.there ∙ sym n.here
-      by (inr f) = ap (routine_placed (routine_entries t)) f.there ∙ ap (λ (e : RoutineEntry). Some e.place) f.entry ∙ sym f.enters.first
+      by (inl n) = ap found n.there ∙ sym n.here
+      by (inr f) = ap found f.there ∙ ap (λ (e : RoutineEntry). Some e.place) f.entry ∙ sym f.enters.first
+
+  -- the same of an entry that was found in a table's index
+  pub routine_named : (t : List Record) (rs : List RoutineEntry) (r : Option RoutineEntry) → r ≡ routine_found rs g → rs ≡ routine_entries t → option_map (λ (e : RoutineEntry). e.place) r ≡ routine_place t g
+  routine_named t rs r is same = ap (option_map (λ (e : RoutineEntry). e.place)) is ∙ ap (λ es. routine_at_of es g) same ∙ routine_at_is t
 
 module _ (r l : ℕ) where
   block_alike : (i : ℕ) (x : Line) (e : BlockEntry) → block_entry i x ≡ Some e → of_block r l e ≡ heads_block r l x
@@ -131,6 +139,9 @@ module _ (r l : ℕ) where
   pub block_at_is : (t : List Record) → block_at (block_entries t) r l ≡ block_place t r l
   block_at_is t = by (linked block_entry (heads_block r l) (of_block r l) block_alike block_none 0 (lines t))
     where
+      found : Option ℕ → Option ℕ
+      found o = option_map (λ (e : BlockEntry). e.place) (entry_at no_block_entry (block_entries t) o)
+
       entry_place : (x : Line) (e : BlockEntry) (j : ℕ) → BlockOf r l x → block_entry (0 + j) x ≡ Some e → e.place ≡ j
       entry_place x e j b h =
           let n : 0 + j ≡ j = omega arith in
@@ -138,13 +149,16 @@ module _ (r l : ℕ) where
           ap (λ (v : BlockEntry). v.place) (sym (some_same _ _ is))
 
       by : Neither block_entry (heads_block r l) (of_block r l) block_alike block_none 0 (lines t) ⊎ Both block_entry (heads_block r l) (of_block r l) block_alike block_none 0 (lines t) → block_at (block_entries t) r l ≡ block_place t r l
-      by (inl n) = ap (block_placed (block_entries t)) n.there ∙ sym n.here
+      by (inl n) = ap found n.there ∙ sym n.here
       by (inr b) =
           let at = place_in (heads_block r l) (lines t) b.j b.here in
           let e1 = at.1 in let e3 = b.at in
           let x : at.0 ≡ b.x = cc in
           let is = entry_place b.x b.e b.j (block_of r l b.x (ap (heads_block r l) (sym x) ∙ at.2)) b.is in
-          ap (block_placed (block_entries t)) b.there ∙ ap (λ (e : BlockEntry). Some e.place) (read (block_entries t) b.k b.e no_block_entry b.entry) ∙ ap Some is ∙ sym b.here
+          ap found b.there ∙ ap (λ (e : BlockEntry). Some e.place) (read (block_entries t) b.k b.e no_block_entry b.entry) ∙ ap Some is ∙ sym b.here
+
+  pub block_named : (t : List Record) (bs : List BlockEntry) (b : Option BlockEntry) → b ≡ block_found bs r l → bs ≡ block_entries t → option_map (λ (e : BlockEntry). e.place) b ≡ block_place t r l
+  block_named t bs b is same = ap (option_map (λ (e : BlockEntry). e.place)) is ∙ ap (λ es. block_at es r l) same ∙ block_at_is t
 
 module _ (t : List Record) where
   pub unknown_absent : (c : Called) → Unknown (routine_entries t) c → Absent t c

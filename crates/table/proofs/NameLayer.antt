@@ -14,12 +14,12 @@ use Rattle.language.specs.Refusals.{First, NamesClear}
 use Rattle.language.proofs.Lists.{clash, nth_below, place_in, place_found}
 use Rattle.language.proofs.Lines.{line_record, length-lines, routine_passes, block_of, block_passes}
 use Rattle.language.proofs.Names.{enters}
-use Rattle.table.specs.declared.scope.Scope.{Scope}
+use Rattle.scopes.specs.declared.scope.Scope.{Scope}
 use Rattle.table.specs.Entries.{routine_entries, block_entries, routine_at_of, block_at}
 use Rattle.table.specs.Names.{Earlier, Unknown, Misfit, Bad, Flawed}
-use Rattle.table.specs.Scopes.{nowhere, scope_at}
+use Rattle.scopes.specs.Scopes.{nowhere, scope_at}
 use Rattle.table.proofs.Firsts.{clear_more}
-use Rattle.table.proofs.Indexing.{Under, under_start, under_more, Lined}
+use Rattle.scopes.proofs.Scoped.{Under, under_start, under_next, Lined}
 use Rattle.table.proofs.Links.{routine_at_is, block_at_is, unknown_absent, absent_unknown, misfit_miscounted, miscounted_misfit}
 
 any_map : {X : Type 0} (P Q : X → Type 0) → ((x : X) → P x → Q x) → (xs : List X) → Any P xs → Any Q xs
@@ -43,7 +43,7 @@ module _ (t : List Record) where
 
   module _ (p : ℕ) (s : Scope) (x : Record) (lined : Lined t p s x) where
     at : slice_get t p ≡ Some x
-    at = line_record t 0 0 None p s.routine s.variables lined.handler x lined.is
+    at = line_record t 0 0 None p s.routine s.variables s.handler x lined.is
 
     repeats_routine_lem : (g a b : ℕ) → x ≡ Routine g a b → Earlier (routine_at_of (routine_entries t) g) p → InNames t RepeatedRoutine p
     repeats_routine_lem g a b e h =
@@ -56,7 +56,7 @@ module _ (t : List Record) where
         let f = earlier_at (block_place t s.routine l) p (subst (λ o. Earlier o p) (block_at_is s.routine l t) h) in
         let i = place_in (heads_block s.routine l) (lines t) f.0 f.1 in
         let b = block_of s.routine l i.0 i.2 in
-        repeated_block p f.0 (lined.is ∙ ap (λ v. Some (line s.routine s.variables lined.handler v)) e) f.2 (i.1 ∙ ap Some b.is)
+        repeated_block p f.0 (lined.is ∙ ap (λ v. Some (line s.routine s.variables s.handler v)) e) f.2 (i.1 ∙ ap Some b.is)
 
     stands_for : (y : Record) → x ≡ y → (k : NameCause) → BadAt s p y k → InNames t k p
     stands_for (Routine g a b) e RepeatedRoutine h = repeats_routine_lem g a b e h
@@ -66,9 +66,9 @@ module _ (t : List Record) where
     stands_for (Block l k) e RepeatedBlock h = repeats_block_lem l k e h
     stands_for (Body i) e RepeatedBlock h = absurd h
     stands_for y e NoMain h = absurd h
-    stands_for y e NoVariable h = no_variable p (lined.is ∙ ap (λ v. Some (line s.routine s.variables lined.handler v)) e) h
+    stands_for y e NoVariable h = no_variable p (lined.is ∙ ap (λ v. Some (line s.routine s.variables s.handler v)) e) h
     stands_for y e NoBlock h =
-        no_block p (lined.is ∙ ap (λ v. Some (line s.routine s.variables lined.handler v)) e)
+        no_block p (lined.is ∙ ap (λ v. Some (line s.routine s.variables s.handler v)) e)
         (any_map (λ l. block_at (block_entries t) s.routine l ≡ None) (λ l. block_place t s.routine l ≡ None) (λ l n. sym (block_at_is s.routine l t) ∙ n) (labels y) h)
     stands_for y e NoRoutine h = no_routine p (at ∙ ap Some e) (any_map (Unknown (routine_entries t)) (Absent t) (unknown_absent t) (calls y) h)
     stands_for y e ArgumentCount h = argument_count p (at ∙ ap Some e) (any_map (Misfit (routine_entries t)) (Miscounted t) (misfit_miscounted t) (calls y) h)
@@ -129,7 +129,7 @@ pub record Sofar (t : List Record) (p : ℕ) (s : Scope) : Type 0 where
   pub clear : (j : NameCause) (q : ℕ) → q < p → InNames t j q → ⊥
 
 pub start : (t : List Record) (s : Scope) → s ≡ nowhere → Sofar t 0 s
-start t s e = record { under = subst (Under t 0) (sym e) (under_start t); clear = λ j q l h. absurd (omega arith) }
+start t s e = record { under = under_start t s e; clear = λ j q l h. absurd (omega arith) }
 
 -- what is said of a record, by the entries of the table
 abbrev pub Said : List Record → Scope → ℕ → Record → Option NameCause → Type 0
@@ -137,14 +137,14 @@ Said t s p x r = Flawed (routine_entries t) (block_entries t) s p x r
 
 module _ (t : List Record) (p : ℕ) (s : Scope) (far : Sofar t p s) (x : Record) (is : slice_get t p ≡ Some x) (s' : Scope) (next : s' ≡ scope_at s x) where
   lined : Lined t p s' x
-  lined = subst (λ v. Lined t p v x) (sym next) (under_more t p s far.under x is).1
+  lined = (under_next t p s far.under x s' is next).1
 
   pub first : (k : NameCause) → Said t s' p x (Some k) → First name_number_of (InNames t) k p
   first k said = record { here = stands t p s' x lined k said.0; before = far.clear; lower = λ j l h. said.1 j l (bad t p s' x lined j p refl h) }
 
   pub more : Said t s' p x None → Sofar t (p + 1) s'
   more said = record {
-    under = subst (Under t (p + 1)) (sym next) (under_more t p s far.under x is).0;
+    under = (under_next t p s far.under x s' is next).0;
     clear = clear_more (InNames t) p far.clear (λ j h. said j (bad t p s' x lined j p refl h));
   }
 

@@ -1,6 +1,9 @@
 -- From what each layer answers to what the check does.
 use Rattle.std.proofs.Common.{◌≡◌, ℕ, suc, ◌+◌, ◌≤◌, cond, List, [], ◌∷◌, length, None, Ok, Err, count_by, Option, Result, refl, arith}
 use Rattle.std.proofs.lemmas.List.Sums.{sum_by-cons}
+use Rattle.language.specs.declared.cause.BlockCause.{BlockCause}
+use Rattle.language.specs.declared.cause.NameCause.{NameCause}
+use Rattle.language.specs.declared.cause.RecordCause.{RecordCause}
 use Rattle.language.specs.declared.handler.Handler.{Handler}
 use Rattle.language.specs.declared.record.Record.{Record}
 use Rattle.language.specs.declared.record.Record.TheVariants.{Routine, Block, Body}
@@ -15,9 +18,7 @@ use Rattle.language.proofs.Near.{refused_near}
 use Rattle.language.proofs.Refusals.{well_formed, refused_once, sound_accepted}
 use Rattle.table.specs.declared.fault.TableFault.{TableFault}
 use Rattle.table.specs.declared.fault.TableFault.TheVariants.{Records, Blocks, Names}
-use Rattle.table.specs.declared.blocks.BlockFault.{BlockFault}
-use Rattle.table.specs.declared.names.NameFault.{NameFault}
-use Rattle.table.specs.declared.records.RecordFault.{RecordFault}
+use Rattle.table.specs.declared.fault.Located.{Located}
 use Rattle.table.specs.declared.table.Table.{Table}
 use Rattle.table.specs.Checked.{records_of, Accepts, Checked, Only, Exactly}
 use Rattle.table.specs.Entries.{picked, routine_entry, block_entry, routine_entries, block_entries}
@@ -64,11 +65,11 @@ exactly bs (Ok m) a = alone bs (records_of m) a
 exactly bs (Err f) a = only bs (fault_layer f) (fault_cause f) (fault_place f) a
 
 -- the three ways to be refused
-pub by_layer_1 : (bs : List ℕ) (f : RecordFault) → First record_number_of (InRecords bs) f.cause f.place → Checked bs (Err (Records f))
+pub by_layer_1 : (bs : List ℕ) (f : Located RecordCause) → First record_number_of (InRecords bs) f.cause f.place → Checked bs (Err (Records f))
 by_layer_1 bs f h = by_records f.cause f.place h
 
-pub by_layer_2 : (bs : List ℕ) (t : List Record) (f : BlockFault) → Holds bs t → First block_number_of (InBlocks t) f.cause f.place → Checked bs (Err (Blocks f))
+pub by_layer_2 : (bs : List ℕ) (t : List Record) (f : Located BlockCause) → Holds bs t → First block_number_of (InBlocks t) f.cause f.place → Checked bs (Err (Blocks f))
 by_layer_2 bs t f holds h = by_blocks t f.cause f.place (records_clear bs t holds) holds h
 
-pub by_layer_3 : (bs : List ℕ) (t : List Record) (f : NameFault) → Holds bs t → BlocksClear t → First name_number_of (InNames t) f.cause f.place → Checked bs (Err (Names f))
+pub by_layer_3 : (bs : List ℕ) (t : List Record) (f : Located NameCause) → Holds bs t → BlocksClear t → First name_number_of (InNames t) f.cause f.place → Checked bs (Err (Names f))
 by_layer_3 bs t f holds clear h = by_names t f.cause f.place (records_clear bs t holds) holds clear h

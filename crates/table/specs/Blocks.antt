@@ -6,11 +6,11 @@ use Rattle.language.specs.declared.record.Record.{Record}
 use Rattle.language.specs.Forms.{closes, is_routine, is_block, is_heading}
 use Rattle.language.specs.Causes.{block_number_of, InBlocks}
 use Rattle.language.specs.Refusals.{First, BlocksClear}
-use Rattle.table.specs.declared.blocks.BlockFault.{BlockFault}
+use Rattle.table.specs.declared.fault.Located.{Located}
 use Rattle.table.specs.declared.blocks.Flow.{Flow}
 use Rattle.table.specs.declared.blocks.Flow.TheVariants.{Start, Open, Closed}
 
-abbrev pub Built : List Record → Result Unit BlockFault → Type 0
+abbrev pub Built : List Record → Result Unit (Located BlockCause) → Type 0
 Built t (Ok u) = BlocksClear t
 Built t (Err f) = First block_number_of (InBlocks t) f.cause f.place
 

@@ -6,7 +6,7 @@ use Rattle.language.specs.Refusals.{Refused}
 use Rattle.table.specs.declared.fault.TableFault.{TableFault}
 use Rattle.table.specs.declared.table.Table.{Table}
 use Rattle.table.specs.Faults.{fault_layer, fault_cause, fault_place}
-use Rattle.table.specs.Few.{held}
+use Rattle.few.specs.Held.{held}
 
 -- the records of a table
 abbrev pub records_of : Table → List Record

@@ -1,5 +1,6 @@
 -- The entries by which a table is looked up: those of its headings, in their order.
 use Rattle.std.specs.Prelude.{ℕ, suc, Bool, ◌&&◌, List, [], ◌∷◌, Some, None, Option, ◌==◌, slice_index_or}
+use Rattle.std.specs.Option.{option_map}
 use Rattle.language.specs.declared.record.Record.{Record}
 use Rattle.language.specs.declared.record.Record.TheVariants.{Routine, Block, Body}
 use Rattle.language.specs.Lines.{Line, line, lines, place}
@@ -39,23 +40,27 @@ of_routine g e = g == e.identifier
 abbrev pub of_block : ℕ → ℕ → BlockEntry → Bool
 of_block r l e = r == e.key.routine && l == e.key.label
 
--- the place of the heading that is found by an entry
+-- the entry that a place stands for
+abbrev pub entry_at : {E : Type 0} → E → List E → Option ℕ → Option E
+entry_at none es None = None
+entry_at none es (Some k) = Some (slice_index_or es k none)
+
 abbrev pub no_routine_entry : RoutineEntry
 no_routine_entry = record { identifier = 0; parameters = 0; place = 0 }
 
 abbrev pub no_block_entry : BlockEntry
 no_block_entry = record { key = record { routine = 0; label = 0 }; place = 0 }
 
-abbrev pub routine_placed : List RoutineEntry → Option ℕ → Option ℕ
-routine_placed rs None = None
-routine_placed rs (Some k) = Some (slice_index_or rs k no_routine_entry).place
+-- the first entry of a routine, of a block
+abbrev pub routine_found : List RoutineEntry → ℕ → Option RoutineEntry
+routine_found rs g = entry_at no_routine_entry rs (place (of_routine g) rs)
 
-abbrev pub block_placed : List BlockEntry → Option ℕ → Option ℕ
-block_placed bs None = None
-block_placed bs (Some k) = Some (slice_index_or bs k no_block_entry).place
+abbrev pub block_found : List BlockEntry → ℕ → ℕ → Option BlockEntry
+block_found bs r l = entry_at no_block_entry bs (place (of_block r l) bs)
 
+-- the place of its heading
 abbrev pub routine_at_of : List RoutineEntry → ℕ → Option ℕ
-routine_at_of rs g = routine_placed rs (place (of_routine g) rs)
+routine_at_of rs g = option_map (λ (e : RoutineEntry). e.place) (routine_found rs g)
 
 abbrev pub block_at : List BlockEntry → ℕ → ℕ → Option ℕ
-block_at bs r l = block_placed bs (place (of_block r l) bs)
+block_at bs r l = option_map (λ (e : BlockEntry). e.place) (block_found bs r l)

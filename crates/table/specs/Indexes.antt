@@ -3,7 +3,7 @@ use Rattle.std.specs.Prelude.{◌≡◌, List}
 use Rattle.language.specs.declared.record.Record.{Record}
 use Rattle.table.specs.declared.index.Index.{Index}
 use Rattle.table.specs.Entries.{routine_entries, block_entries}
-use Rattle.table.specs.Few.{held}
+use Rattle.few.specs.Held.{held}
 
 pub record Indexes (index : Index) (t : List Record) : Type 0 where
   pub routine_list : held index.routines ≡ routine_entries t

@@ -17,7 +17,7 @@ abbrev pub Finds : {E : Type 0} → (E → Type 0) → List E → Option ℕ →
 Finds {E} P es None = (k : ℕ) (e : E) → slice_get es k ≡ Some e → P e → ⊥
 Finds P es (Some i) = Hit P es i × NoneBelow P es i
 
--- a place that is found is one of n
-abbrev pub Inside : Option ℕ → ℕ → Type 0
-Inside None n = Unit {0}
-Inside (Some i) n = i < n
+-- the first entry that has it, or that none does
+abbrev pub Gets : {E : Type 0} → (E → Type 0) → List E → Option E → Type 0
+Gets P es None = Finds P es None
+Gets P es (Some e) = (i : ℕ) × (slice_get es i ≡ Some e) × Finds P es (Some i)

@@ -1,5 +1,5 @@
 -- What layer 3 answers: the entries of a table whose names fit together, or the first cause that they do not.
-use Rattle.std.specs.Prelude.{◌≡◌, ℕ, ◌<◌, ◌≤◌, ◌⊎◌, List, Some, None, Ok, Err, Option, Result, ◌≢◌, slice_index, slice_index_or}
+use Rattle.std.specs.Prelude.{◌≡◌, ℕ, ◌<◌, ◌≤◌, List, Some, None, Ok, Err, Option, Result, ◌≢◌, slice_index_or}
 use Rattle.language.specs.declared.cause.NameCause.{NameCause}
 use Rattle.language.specs.declared.cause.NameCause.TheVariants.{RepeatedRoutine, RepeatedBlock, NoMain, NoVariable, NoBlock, NoRoutine, ArgumentCount}
 use Rattle.language.specs.declared.record.Record.{Record}
@@ -11,12 +11,12 @@ use Rattle.language.specs.Refusals.{First, NamesClear}
 use Rattle.table.specs.declared.entries.RoutineEntry.{RoutineEntry}
 use Rattle.table.specs.declared.entries.BlockEntry.{BlockEntry}
 use Rattle.table.specs.declared.index.Index.{Index}
-use Rattle.table.specs.declared.names.NameFault.{NameFault}
-use Rattle.table.specs.declared.scope.Scope.{Scope}
+use Rattle.table.specs.declared.fault.Located.{Located}
+use Rattle.scopes.specs.declared.scope.Scope.{Scope}
 use Rattle.table.specs.Entries.{of_routine, routine_at_of, block_at, no_routine_entry}
 use Rattle.table.specs.Indexes.{Indexes}
 
-abbrev pub Tied : List Record → Result Index NameFault → Type 0
+abbrev pub Tied : List Record → Result Index (Located NameCause) → Type 0
 Tied t (Ok index) = NamesClear t × Indexes index t
 Tied t (Err f) = First name_number_of (InNames t) f.cause f.place
 
@@ -62,7 +62,3 @@ Miscalled rs g n (Some NoVariable) = ⊥
 Miscalled rs g n (Some NoBlock) = ⊥
 Miscalled rs g n (Some NoRoutine) = Unknown rs (called g n)
 Miscalled rs g n (Some ArgumentCount) = (Unknown rs (called g n) → ⊥) × Misfit rs (called g n)
-
--- one of four arguments, among those that are passed, is not below m
-abbrev pub Beyond : ℕ → ℕ → List ℕ → Type 0
-Beyond m n xs = ((0 < n) × (m ≤ slice_index xs 0)) ⊎ ((1 < n) × (m ≤ slice_index xs 1)) ⊎ ((2 < n) × (m ≤ slice_index xs 2)) ⊎ ((3 < n) × (m ≤ slice_index xs 3))

@@ -1,6 +1,7 @@
 ghost use Rattle.table.specs.Blocks.{Built, Flawed, after};
 ghost use Rattle.std.specs.Prelude.{◌≡◌};
 
+use super::fault::{BlockFault, Located};
 use language::{BlockCause, Instruction, Record};
 
 /// The most routines and the most blocks that a table has.
@@ -8,15 +9,8 @@ pub const MOST_ROUTINES: usize = 16;
 
 pub const MOST_BLOCKS: usize = 64;
 
-/// The record at a place stands where it must not, or the table ends where it must not.
-#[derive(Clone, Copy, Debug)]
-pub struct BlockFault {
-    pub cause: BlockCause,
-    pub place: usize,
-}
-
 /// What comes before a record: nothing, a block that is still open, or one that is closed.
-#[derive(Clone, Copy)]
+#[derive(Clone, Copy, PartialEq, Eq, Debug)]
 enum Flow {
     Start,
     Open,
@@ -49,7 +43,7 @@ pub fn check_blocks(records: &[Record]) -> Result<(), BlockFault>
     let mut blocks: usize = 0;
     for (place, at) in records.iter().enumerate() {
         if let Some(cause) = flaw(flow, *at, routines, blocks) {
-            return Err(BlockFault { cause, place });
+            return Err(Located { cause, place });
         }
         match at {
             Record::Routine { .. } => routines += 1,
@@ -59,7 +53,7 @@ pub fn check_blocks(records: &[Record]) -> Result<(), BlockFault>
         flow = Flow::after(*at);
     }
     match flow {
-        Flow::Open => Err(BlockFault {
+        Flow::Open => Err(Located {
             cause: BlockCause::Unclosed,
             place: records.len(),
         }),

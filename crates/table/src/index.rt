@@ -1,62 +1,14 @@
-ghost use Rattle.std.specs.Prelude.{◌≤◌, length};
-ghost use Rattle.table.specs.Entries.{routine_entries, block_entries};
-ghost use Rattle.table.specs.Indexes.{Indexes};
-
 use super::blocks::{MOST_BLOCKS, MOST_ROUTINES};
-use super::entries::{BlockEntry, BlockKey, RoutineEntry};
-use super::few::Few;
-use super::scope::Scope;
-use language::Record;
+use super::entries::{BlockEntry, RoutineEntry};
+use few::Few;
+
+mod flaws;
+mod lookups;
+mod making;
 
 /// The entries of a table's headings, in their order.
 #[derive(Drop)]
 pub struct Index {
-    pub routines: Few<RoutineEntry, MOST_ROUTINES>,
-    pub blocks: Few<BlockEntry, MOST_BLOCKS>,
-}
-
-/// The entries of records that have few enough headings.
-pub fn make_index(records: &[Record]) -> Index
-    requires routines { length (routine_entries records.now) ≤ 16 }
-    requires blocks { length (block_entries records.now) ≤ 64 }
-    ensures { Indexes result records.now }
-{
-    let mut routines = Few::new(RoutineEntry {
-        identifier: 0,
-        parameters: 0,
-        place: 0,
-    });
-    let mut blocks = Few::new(BlockEntry {
-        key: BlockKey {
-            routine: 0,
-            label: 0,
-        },
-        place: 0,
-    });
-    let mut scope = Scope::nowhere();
-    for (place, at) in records.iter().enumerate() {
-        scope = scope.at(*at);
-        match *at {
-            Record::Routine {
-                identifier,
-                parameters,
-                ..
-            } => {
-                routines.push(RoutineEntry {
-                    identifier,
-                    parameters,
-                    place,
-                });
-            }
-            Record::Block { label, .. } => {
-                let routine = scope.routine;
-                blocks.push(BlockEntry {
-                    key: BlockKey { routine, label },
-                    place,
-                });
-            }
-            Record::Body(_) => {}
-        }
-    }
-    Index { routines, blocks }
+    routines: Few<RoutineEntry, MOST_ROUTINES>,
+    blocks: Few<BlockEntry, MOST_BLOCKS>,
 }

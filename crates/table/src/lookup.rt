@@ -1,8 +1,8 @@
 ghost use Rattle.std.specs.Prelude.{◌≡◌, Bool, Decides};
-ghost use Rattle.table.specs.Lookup.{Finds};
+ghost use Rattle.table.specs.Lookup.{Finds, Gets};
 
 /// What can be looked up by a key.
-pub trait Entry {
+pub trait Entry: Copy {
     type Key: PartialEq + Drop;
 
     /// The key that an entry has.
@@ -19,10 +19,12 @@ pub trait Entry {
 pub fn find<E: Entry>(entries: &[E], key: &E::Key) -> Option<usize>
     ensures { Finds (λ e. E.keyed e ≡ key.now) entries.now result }
 {
-    for (at, entry) in entries.iter().enumerate() {
-        if entry.key() == *key {
-            return Some(at);
-        }
-    }
-    None
+    entries.iter().position(|entry| entry.key() == *key)
+}
+
+/// The first entry with the key, if one has it.
+pub fn first<E: Entry>(entries: &[E], key: &E::Key) -> Option<E>
+    ensures { Gets (λ e. E.keyed e ≡ key.now) entries.now result }
+{
+    find(entries, key).map(|at| entries[at])
 }

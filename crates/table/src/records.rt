@@ -3,25 +3,19 @@ ghost use Rattle.language.specs.Rows.{Whole};
 ghost use Rattle.table.specs.Records.{Recorded};
 
 use super::decoding::decode;
-use super::few::Few;
+use super::fault::{Located, RecordFault};
+use few::Few;
 use language::{Instruction, Record, RecordCause};
 
 /// The most records that a table has.
 pub const MOST_RECORDS: usize = 256;
-
-/// The bytes at a place make no record.
-#[derive(Clone, Copy, Debug)]
-pub struct RecordFault {
-    pub cause: RecordCause,
-    pub place: usize,
-}
 
 /// Layer 1: the records that the bytes hold, or the first fault.
 pub fn check_records(bytes: &[u8]) -> Result<Few<Record, MOST_RECORDS>, RecordFault>
     ensures { Recorded bytes.now result }
 {
     if !is_whole(bytes) {
-        return Err(RecordFault {
+        return Err(Located {
             cause: RecordCause::Length,
             place: 0,
         });
@@ -29,10 +23,8 @@ pub fn check_records(bytes: &[u8]) -> Result<Few<Record, MOST_RECORDS>, RecordFa
     let (rows, _) = bytes.as_chunks::<8>();
     let mut records = Few::new(Record::Body(Instruction::Return { x: 0 }));
     for (place, row) in rows.iter().enumerate() {
-        match decode(*row) {
-            Ok(made) => records.push(made),
-            Err(cause) => return Err(RecordFault { cause, place }),
-        }
+        let made = decode(*row).map_err(|cause| Located { cause, place })?;
+        records.push(made).unwrap();
     }
     Ok(records)
 }

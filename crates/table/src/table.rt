@@ -1,12 +1,10 @@
-ghost use Rattle.std.specs.Prelude.{◌≡◌};
 ghost use Rattle.language.specs.WellFormed.{WellFormed};
-ghost use Rattle.table.specs.Few.{held};
-ghost use Rattle.table.specs.Entries.{routine_entries, block_entries};
+ghost use Rattle.few.specs.Held.{held};
+ghost use Rattle.table.specs.Indexes.{Indexes};
 
-use super::blocks::{MOST_BLOCKS, MOST_ROUTINES};
-use super::entries::{BlockEntry, RoutineEntry};
-use super::few::Few;
+use super::index::Index;
 use super::records::MOST_RECORDS;
+use few::Few;
 use language::Record;
 
 mod checking;
@@ -18,9 +16,7 @@ pub use checking::check;
 #[derive(Drop)]
 pub struct Table {
     records: Few<Record, MOST_RECORDS>,
-    routines: Few<RoutineEntry, MOST_ROUTINES>,
-    blocks: Few<BlockEntry, MOST_BLOCKS>,
+    index: Index,
     ghost formed: { ∥ WellFormed (held records) ∥₁ },
-    ghost identified: { held routines ≡ routine_entries (held records) },
-    ghost labelled: { held blocks ≡ block_entries (held records) },
+    ghost indexed: { Indexes index (held records) },
 }

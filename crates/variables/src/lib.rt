@@ -5,7 +5,7 @@ ghost use Rattle.std.specs.Prelude.{◌≡◌, ◌≤◌, map, length, slice_set
 ghost use Rattle.language.specs.Runs.{variable_count, value, difference, with_arguments};
 
 /// The sixteen variables of a routine.
-#[derive(Clone, Copy)]
+#[derive(Clone, Copy, PartialEq, Eq, Debug)]
 pub struct Variables {
     values: [i32; 16],
     ghost long: { length values ≡ variable_count },
@@ -21,9 +21,7 @@ impl Variables {
         ensures { result.values ≡ with_arguments arguments.now }
     {
         let mut values = [0; 16];
-        for (place, argument) in arguments.iter().enumerate() {
-            values[place] = *argument;
-        }
+        values[..arguments.len()].copy_from_slice(arguments);
         Variables { values }
     }
 
@@ -33,6 +31,7 @@ impl Variables {
         ensures { result.values ≡ with_arguments (map (value self.now.values) arguments.now) }
     {
         let mut values = [0; 16];
+        // by place: over `iter_mut().zip(..)` and by `array::from_fn` the proof did not close
         for (place, argument) in arguments.iter().enumerate() {
             values[place] = self.get(*argument);
         }
@@ -43,10 +42,7 @@ impl Variables {
     pub fn get(&self, x: u8) -> i32
         ensures { result ≡ value self.now.values x }
     {
-        match self.values.get(usize::from(x)) {
-            Some(value) => *value,
-            None => 0,
-        }
+        self.values.get(usize::from(x)).copied().unwrap_or(0)
     }
 
     /// The difference of two variables, cut to 32 bits.
@@ -61,7 +57,7 @@ impl Variables {
         ensures { self.new.values ≡ slice_set self.old.values x value }
     {
         let place = usize::from(x);
-        if place < 16 {
+        if place < self.values.len() {
             self.values[place] = value;
         }
     }

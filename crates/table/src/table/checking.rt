@@ -2,7 +2,6 @@ ghost use Rattle.table.specs.Checked.{Checked, Exactly};
 
 use super::super::blocks::check_blocks;
 use super::super::fault::TableFault;
-use super::super::index::Index;
 use super::super::names::check_names;
 use super::super::records::check_records;
 use super::Table;
@@ -15,10 +14,6 @@ pub fn check(bytes: &[u8]) -> Result<Table, TableFault>
     let records = check_records(bytes)?;
     let all = records.as_slice();
     check_blocks(all)?;
-    let Index { routines, blocks } = check_names(all)?;
-    Ok(Table {
-        records,
-        routines,
-        blocks,
-    })
+    let index = check_names(all)?;
+    Ok(Table { records, index })
 }

@@ -4,7 +4,6 @@ ghost use Rattle.language.specs.WellFormed.{WellFormed};
 ghost use Rattle.table.specs.Checked.{records_of};
 ghost use Rattle.table.specs.Mains.{StartsWith};
 
-use super::super::entries::{block_at, find_routine, routine_at};
 use super::super::entry_point::Main;
 use super::Table;
 use language::Record;
@@ -22,18 +21,14 @@ impl Table {
     pub fn routine(&self, identifier: u8) -> Option<usize>
         ensures { result ≡ routine_place (records_of self.now) identifier }
     {
-        routine_at(self.routines.as_slice(), identifier)
+        self.index.routine(identifier).map(|entry| entry.place)
     }
 
     /// The routine that a run starts with, routine 0.
     pub fn main(&self) -> Main
         ensures { StartsWith (records_of self.now) result }
     {
-        let routines = self.routines.as_slice();
-        let Some(at) = find_routine(routines, 0) else {
-            unreachable()
-        };
-        let entry = routines[at];
+        let entry = self.index.routine(0).unwrap();
         Main {
             place: entry.place,
             parameters: entry.parameters,
@@ -44,6 +39,6 @@ impl Table {
     pub fn block(&self, routine: u8, label: u8) -> Option<usize>
         ensures { result ≡ block_place (records_of self.now) routine label }
     {
-        block_at(self.blocks.as_slice(), routine, label)
+        self.index.block(routine, label).map(|entry| entry.place)
     }
 }

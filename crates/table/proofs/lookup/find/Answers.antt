@@ -1,20 +1,10 @@
-use Rattle.std.proofs.Common.{◌≡◌, true, false, sym, refl, ◌∙◌}
-use Rattle.std.proofs.lemmas.Bool.{false≢true}
-use Rattle.table.proofs.Finding.{none_more, none_at_all, hit}
+use Rattle.std.proofs.Common.{◌≡◌, Bool, true, false, rules}
+use Rattle.std.proofs.lemmas.Iterator.{IsFirst-from_position, YieldsList-from_slice}
+use Rattle.table.proofs.Finding.{finds_first}
 use Rattle.table.proofs.lookup.find.Goals as goal
 
--- the entry at hand has another key, by what `==` said of the two
-pub loop-at-preserved : goal.loop-at-preserved
-loop-at-preserved g c =
-    let told = g.met.E.Entry.agrees c.key.result c.args.key.now false c.if-eq.ensures in
-    none_more (λ e. g.E.Entry.keyed e ≡ c.args.key.now) c.args.entries.now c.loop-at.at _ c.loop-at-test.true c.index-entries-at.is
-    (λ e. false≢true (told.1 (c.key.ensures ∙ e))) c.loop-at.invariant
-
-pub returns-then-eq : goal.returns-then-eq
-returns-then-eq g c =
-    let told = g.met.E.Entry.agrees c.key.result c.args.key.now true c.if-eq.ensures in
-    hit (λ e. g.E.Entry.keyed e ≡ c.args.key.now) c.args.entries.now c.loop-at.at _ c.loop-at-test.true c.index-entries-at.is
-    (sym c.key.ensures ∙ told.0 refl) c.loop-at.invariant
-
 pub returns : goal.returns
-returns g c = none_at_all (λ e. g.E.Entry.keyed e ≡ c.args.key.now) c.args.entries.now c.loop-at.at c.loop-at-test.false c.loop-at.invariant
+returns g c =
+    let same : g.row.E.Denot → Bool = λ e. g.E.Key.PartialEq.eq (g.E.Entry.keyed e) c.args.key.now in
+    finds_first (λ e. g.E.Entry.keyed e ≡ c.args.key.now) same (λ e b is. g.met.E.Entry.agrees (g.E.Entry.keyed e) c.args.key.now b is) c.args.entries.now c.position.result
+    (IsFirst-from_position _ _ _ (λ e. same e ≡ true) (λ e. same e ≡ false) c.position.ensures.ran (YieldsList-from_slice c.args.entries.now cc) (λ x q k. search rules) (λ x q k. search rules))

@@ -1,43 +1,61 @@
-use Rattle.std.proofs.Common.{ℕ, ◌+◌, ◌<◌, ◌≤◌, List, [], length, get_or, sym, ◌∙◌, subst, arith, lit<}
+use Rattle.std.proofs.Common.{◌≡◌, ℕ, ◌+◌, ◌<◌, ◌≤◌, List, [], length, get_or, Err, sym, ap, ◌∙◌, subst, arith, rules}
 use Rattle.std.proofs.lemmas.Bool.{false≢true}
-use Rattle.table.specs.Few.{held}
-use Rattle.table.specs.Rows.{Missed}
+use Rattle.std.proofs.lemmas.Result.{err_from_is_err_and}
+use Rattle.language.specs.Causes.{record_number_of, InRecords}
+use Rattle.language.specs.Refusals.{First}
+use Rattle.few.proofs.Pushing.{pushed, push_fits}
+use Rattle.few.specs.Held.{held}
+use Rattle.language.specs.declared.cause.RecordCause.{RecordCause}
+use Rattle.table.specs.declared.fault.Located.{Located}
+use Rattle.table.specs.Records.{Recorded}
+use Rattle.table.specs.Rows.{Missed, Decodes}
+use Rattle.table.proofs.Mapping.{mapped_ok, mapped_err}
 use Rattle.table.proofs.RecordLayer.{Sofar, more, first, done, no_table, counted}
 use Rattle.table.proofs.records.check_records.Goals as goal
 
 pub returns-then-not-is_whole : goal.returns-then-not-is_whole
 returns-then-not-is_whole c = no_table c.args.bytes.now (λ w. false≢true (sym c.if-not-is_whole.true ∙ c.is_whole.ensures.1 w))
 
-pub push-requires : goal.push-requires
-push-requires c =
+pub unwrap-requires : goal.unwrap-requires
+unwrap-requires c =
     let bs = c.args.bytes.now in
     let whole = c.is_whole.ensures.0 c.if-not-is_whole.false in
     let few = whole.1 in
     let on = c.loop-place-test.true in
     let long = c.as_chunks.ensures.front_len in
-    let count = counted c.as_chunks.result.0.now (held c.loop-place.records) c.loop-place.place (omega arith) c.loop-place.invariant in
-    (lit< tt, omega arith)
+    let count = counted c.as_chunks.result.0.now (held c.loop-place.records) c.loop-place.place-counter (omega arith) c.loop-place.invariant in
+    let room : length (held c.loop-place.records) < 256 = omega arith in
+    push_fits 256 (held c.loop-place.records) c.in_ok-made.made c.push.result (held c.push.new.self) room c.push.ensures
 
 pub loop-place-preserved : goal.loop-place-preserved
 loop-place-preserved c =
     let rs = c.as_chunks.result.0.now in
-    subst (λ l. Sofar rs l (c.loop-place.place + 1)) (sym c.push.ensures)
-    (more rs (held c.loop-place.records) c.loop-place.place c.in-Ok.made c.loop-place-test.true c.in-Ok.ensures.decodes c.loop-place.invariant)
+    let p = c.loop-place.place-counter in
+    let read = mapped_ok _ c.decode.result c.map_err.result c.in_ok-made.made c.map_err.ensures.cases c.in_ok-made.was in
+    let stands = subst (Decodes (get_or rs p [])) read c.decode.ensures.decodes in
+    subst (λ l. Sofar rs l (p + 1)) (sym (pushed 256 (held c.loop-place.records) c.in_ok-made.made c.push.result c.unwrap.result (held c.push.new.self) c.unwrap.ensures c.push.ensures))
+    (more rs (held c.loop-place.records) p c.in_ok-made.made c.loop-place-test.true stands c.loop-place.invariant)
 
-pub returns-in-Err : goal.returns-in-Err
-returns-in-Err c =
+pub returns-in_err-made : goal.returns-in_err-made
+returns-in_err-made c =
     let bs = c.args.bytes.now in
-    let p = c.loop-place.place in
+    let p = c.loop-place.place-counter in
     let t = held c.loop-place.records in
     let same = c.as_chunks.ensures.front in
-    first bs (c.is_whole.ensures.0 c.if-not-is_whole.false) t p (subst (λ rs. Sofar rs t p) same c.loop-place.invariant) c.in-Err.cause
+    let out = err_from_is_err_and c.from_residual.result c.from_residual.ensures.1 in
+    let read = mapped_err _ c.decode.result c.map_err.result c.in_err-made.field-0.0 c.map_err.ensures.cases c.in_err-made.was in
+    let missed = subst (Decodes (get_or c.as_chunks.result.0.now p [])) read.1 c.decode.ensures.decodes in
+    let told = first bs (c.is_whole.ensures.0 c.if-not-is_whole.false) t p (subst (λ rs. Sofar rs t p) same c.loop-place.invariant) read.0
     (subst (λ (rs : List (List ℕ)). p < length rs) same c.loop-place-test.true)
-    (subst (λ rs. Missed (get_or rs p []) c.in-Err.cause) same c.in-Err.ensures.decodes)
+    (subst (λ rs. Missed (get_or rs p []) read.0) same missed) in
+    let at : c.in_err-made.field-0.0 ≡ record { cause = read.0; place = p } = search rules in
+    let said : First record_number_of (InRecords bs) c.in_err-made.field-0.0.cause c.in_err-made.field-0.0.place = subst (λ (f : Located RecordCause). First record_number_of (InRecords bs) f.cause f.place) (sym at) told in
+    subst (Recorded bs) (sym (out.1 ∙ ap Err out.2)) said
 
 pub returns : goal.returns
 returns c =
     let bs = c.args.bytes.now in
-    let p = c.loop-place.place in
+    let p = c.loop-place.place-counter in
     let t = held c.loop-place.records in
     let same = c.as_chunks.ensures.front in
     done bs (c.is_whole.ensures.0 c.if-not-is_whole.false) t p (subst (λ rs. Sofar rs t p) same c.loop-place.invariant) (subst (λ (rs : List (List ℕ)). length rs ≤ p) same c.loop-place-test.false)

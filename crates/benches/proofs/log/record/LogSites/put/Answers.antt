@@ -5,7 +5,7 @@ use Rattle.bench.specs.Bounds.{site_count}
 use Rattle.bench.specs.Ranges.{Site}
 use Rattle.bench.specs.States.{on_spot}
 use Rattle.few.specs.Held.{held}
-use Rattle.few.proofs.Pushes.{pushed_fits, pushed}
+use Rattle.few.proofs.Pushing.{push_fits, push_adds}
 use Rattle.benches.specs.Spots.{all_free}
 use Rattle.benches.specs.declared.placement.Placement.{Placement}
 use Rattle.benches.specs.Laid.{after}
@@ -31,17 +31,17 @@ one_more l p e =
 pub unwrap-requires : goal.unwrap-requires
 unwrap-requires c =
     let l = c.args.self.now in
-    pushed_fits site_count (held l.placements) _ _ c.push.result (has_room l c.args.site c.requires) c.push.ensures
+    push_fits site_count (held l.placements) _ c.push.result _ (has_room l c.args.site c.requires) c.push.ensures
 
 pub invariant_of-self : goal.invariant_of-self
 invariant_of-self c =
     let l = c.args.self.now in
     let p : Placement = record { site = c.args.site; part = c.args.part } in
-    let is = pushed site_count (held l.placements) _ _ c.push.result (has_room l c.args.site c.requires) c.push.ensures in
+    let is = push_adds site_count (held l.placements) _ c.push.result _ (has_room l c.args.site c.requires) c.push.ensures in
     record { apart = subst (λ ps. sum_by on_spot (after ps) ≡ length ps) (sym is) (one_more l p c.requires) }
 
 pub returns : goal.returns
 returns c =
     let l = c.args.self.now in
-    let is = pushed site_count (held l.placements) _ _ c.push.result (has_room l c.args.site c.requires) c.push.ensures in
+    let is = push_adds site_count (held l.placements) _ c.push.result _ (has_room l c.args.site c.requires) c.push.ensures in
     ap after is ∙ laid_push (held l.placements) (record { site = c.args.site; part = c.args.part }) all_free
