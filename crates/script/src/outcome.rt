@@ -1,9 +1,9 @@
 //! Outcomes as answers.
 ghost use Rattle.std.specs.Prelude.{◌≡◌, MatchResult};
-ghost use Rattle.script.specs.declared.answer.Answer.TheVariants.{Done, SetUpRefused, ShiftRefused, TableRefused, Number, Fault as Faulted};
+ghost use Rattle.script.specs.declared.answer.Answer.TheVariants.{Done, SetUpRefused, ShiftRefused, TableRefused, Number, Fault as Faulted, State as Standing};
 
 use super::answer::Answer;
-use bench::{Fault, SetUpRefusal, ShiftRefusal};
+use bench::{Fault, SetUpRefusal, ShiftRefusal, State};
 use table::TableFault;
 
 /// What succeeds with nothing to say.
@@ -52,6 +52,14 @@ impl From<Fault> for Answer {
 
     fn from(fault: Fault) -> Answer {
         Answer::Fault(fault)
+    }
+}
+
+impl From<State> for Answer {
+    ghost from_gives = { λ s a. a ≡ Standing s };
+
+    fn from(state: State) -> Answer {
+        Answer::State(state)
     }
 }
 
