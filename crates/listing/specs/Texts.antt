@@ -7,6 +7,7 @@ use Rattle.language.specs.Code.{code}
 use Rattle.language.specs.Refusals.{Refused}
 use Rattle.language.specs.Rows.{rows, byte}
 use Rattle.table.specs.Checked.{Accepts}
+use Rattle.table.specs.Faults.{numbers_text}
 
 abbrev pub spaced : ℕ → List ℕ
 spaced n = codes " " ++ decimal n
@@ -25,7 +26,7 @@ code_text_of bs = words_text 0 (rows bs)
 
 -- layer, cause and place
 abbrev pub refusal_text_of : ℕ → ℕ → ℕ → List ℕ
-refusal_text_of l c p = codes "refused " ++ (decimal l ++ (codes " " ++ (decimal c ++ (codes " " ++ (decimal p ++ codes "\n")))))
+refusal_text_of l c p = codes "refused " ++ (numbers_text l c p ++ codes "\n")
 
 -- the listing of bytes
 pub data Lists (bs : List ℕ) : List ℕ → Type 0 where

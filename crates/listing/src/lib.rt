@@ -2,13 +2,12 @@
 //! none.
 #![tactic(auto)]
 
-ghost use Rattle.std.specs.Prelude.{◌≡◌, ◌++◌, length, IfOk, string_bytes, codes, decimal};
-ghost use Rattle.std.proofs.Math.Utf8.{encode};
-ghost use Rattle.std.specs.List.{flat_map};
-ghost use Rattle.listing.specs.Texts.{spaced, word_text_of, code_text_of, refusal_text_of as text_of, Lists};
+ghost use Rattle.std.specs.Prelude.{◌≡◌, ◌++◌, length, IfOk, OnOk, string_bytes};
+ghost use Rattle.listing.specs.Texts.{word_text_of, code_text_of, refusal_text_of as text_of, Lists};
+ghost use Rattle.translation.specs.Numbers.{refusal_layer, refusal_cause, refusal_place};
 
 use std::alloc::{AllocError, Global};
-use translation::{MOST_BYTES, translate_bytes};
+use translation::{MOST_BYTES, TranslationFault, translate_bytes};
 
 /// The listing of the table that the bytes hold.
 pub fn list_table(heap: Global, bytes: &[u8]) -> Result<String, AllocError>
@@ -24,8 +23,8 @@ fn list_by(heap: Global, bytes: &[u8], code: &mut [u8]) -> Result<String, AllocE
     ensures { IfOk result (λ s. Lists bytes.now (string_bytes s)) }
 {
     match translate_bytes(bytes, code) {
-        Ok(written) => code_text(heap, &code[0..written]),
-        Err(fault) => refusal_text(heap, fault.layer(), fault.cause(), fault.place()),
+        Ok(written) => code_text(heap, &code[..written]),
+        Err(fault) => refusal_text(heap, fault),
     }
 }
 
@@ -36,43 +35,26 @@ fn code_text(heap: Global, code: &[u8]) -> Result<String, AllocError>
     let (words, _) = code.as_chunks::<8>();
     let mut text = String::new(heap);
     for (address, word) in words.iter().enumerate() {
-        let line = word_text(heap, address, *word)?;
-        text.push_str(line.as_str())?;
+        write_word(&mut text, address, *word)?;
     }
     Ok(text)
 }
 
-/// The line of one word.
-fn word_text(heap: Global, address: usize, word: [u8; 8]) -> Result<String, AllocError>
-    ensures { IfOk result (λ s. string_bytes s ≡ word_text_of address word) }
+/// Adds the line of one word: its address, its letter, and the bytes after it.
+fn write_word(text: &mut String, address: usize, word: [u8; 8]) -> Result<(), AllocError>
+    ensures { OnOk result (string_bytes text.new ≡ string_bytes text.old ++ word_text_of address word) }
 {
     let letter = char::from(word[0]);
-    let fields = fields_text(heap, &word[1..8])?;
-    line_text(heap, address, letter, fields.as_str())
-}
-
-/// The parts of a line.
-fn line_text(heap: Global, address: usize, letter: char, fields: &str) -> Result<String, AllocError>
-    ensures { IfOk result (λ s. string_bytes s ≡ decimal address ++ (codes " " ++ (encode letter ++ (fields.now ++ codes "\n")))) }
-{
-    format!(in heap; "{address} {letter}{fields}\n")
-}
-
-/// Each byte, after a blank.
-fn fields_text(heap: Global, fields: &[u8]) -> Result<String, AllocError>
-    ensures { IfOk result (λ s. string_bytes s ≡ flat_map spaced fields.now) }
-{
-    let mut text = String::new(heap);
-    for field in fields {
-        let part = format!(in heap; " {field}")?;
-        text.push_str(part.as_str())?;
+    write!(text, "{address} {letter}")?;
+    for field in &word[1..] {
+        write!(text, " {field}")?;
     }
-    Ok(text)
+    writeln!(text)
 }
 
 /// The line that tells of a refusal.
-fn refusal_text(heap: Global, layer: u8, cause: u8, place: usize) -> Result<String, AllocError>
-    ensures { IfOk result (λ s. string_bytes s ≡ text_of layer cause place) }
+fn refusal_text(heap: Global, fault: TranslationFault) -> Result<String, AllocError>
+    ensures { IfOk result (λ s. string_bytes s ≡ text_of (refusal_layer fault) (refusal_cause fault) (refusal_place fault)) }
 {
-    format!(in heap; "refused {layer} {cause} {place}\n")
+    format!(in heap; "refused {fault}\n")
 }

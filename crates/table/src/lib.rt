@@ -20,4 +20,5 @@ pub use decoding::decode;
 pub use entry_point::Main;
 pub use fault::{BlockFault, Located, NameFault, RecordFault, TableFault};
 pub use lookup::{Entry, find, first};
+pub use records::MOST_RECORDS;
 pub use table::{Table, check};

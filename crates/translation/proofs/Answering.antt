@@ -1,30 +1,27 @@
 -- From the parts of the translation to its answer.
-use Rattle.std.proofs.Common.{◌≡◌, ℕ, ◌*◌, ◌<◌, ◌≤◌, List, length, Ok, Err, sym, ap, arith}
+use Rattle.std.proofs.Common.{◌≡◌, ℕ, ◌*◌, ◌<◌, ◌≤◌, List, length, Ok, Err, ap, ◌∙◌, arith}
 use Rattle.language.specs.declared.record.Record.{Record}
 use Rattle.language.specs.Code.{code}
+use Rattle.language.specs.Translation.{translation}
 use Rattle.language.specs.WellFormed.{WellFormed}
 use Rattle.language.proofs.Near.{refused_near}
 use Rattle.language.proofs.Sizes.{held}
-use Rattle.translation.specs.declared.addresses.Addresses.{Addresses}
 use Rattle.translation.specs.declared.fault.TranslationFault.{TranslationFault}
 use Rattle.translation.specs.declared.fault.TranslationFault.TheVariants.{Table, Short}
-use Rattle.translation.specs.Addressing.{Addressed}
 use Rattle.translation.specs.Answers.{Written, Unwritten, Answers}
 use Rattle.translation.specs.Buffers.{over}
 use Rattle.translation.specs.Numbers.{refusal_place}
 
 -- the records as they were read are those of the table
-module _ (t u : List Record) (same : u ≡ t) (formed : WellFormed u) (a : Addresses) (known : Addressed u a) (out : List ℕ) where
-  code_long : length (code t) ≡ 8 * a.words
-  code_long =
-      let l = ap (λ v. length (code v)) (sym same) in
-      omega (arith, l, (held u formed).bytes, known.all)
+module _ (t u : List Record) (same : u ≡ t) (formed : WellFormed t) (out : List ℕ) where
+  code_long : length (code t) ≡ 8 * length (translation u)
+  code_long = omega (arith, (held t formed).bytes, ap (λ v. length (translation v)) same)
 
-  pub too_short : (out' : List ℕ) → length out < 8 * a.words → out' ≡ out → Unwritten t out out'
+  pub too_short : (out' : List ℕ) → length out < 8 * length (translation u) → out' ≡ out → Unwritten t out out'
   too_short out' l e = record { short = omega (arith, code_long); same = e }
 
-  pub written : (out' : List ℕ) (n : ℕ) → 8 * a.words ≤ length out → n ≡ length (code t) → out' ≡ over (code t) out → Written t out out' n
-  written out' n l c e = record { room = omega (arith, code_long); after = e; count = c }
+  pub written : (out' : List ℕ) (n : ℕ) → 8 * length (translation u) ≤ length out → n ≡ length (code u) → out' ≡ over (code u) out → Written t out out' n
+  written out' n l c e = record { room = omega (arith, code_long); after = e ∙ ap (λ v. over (code v) out) same; count = c ∙ ap (λ v. length (code v)) same }
 
 -- what is written is not long, and a refusal's place is near
 pub answer_low : (bs out out' : List ℕ) (n : ℕ) → Answers bs out out' (Ok n) → n ≤ 7808

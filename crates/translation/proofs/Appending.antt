@@ -1,16 +1,13 @@
 -- One run of bytes written after another.
-use Rattle.std.proofs.Common.{◌≡◌, ℕ, zero, suc, ◌+◌, List, [], ◌∷◌, ◌++◌, length, take, drop, pos, sym, ap, ◌∙◌, append_assoc, append-nil, add-zero, arith, length-append, drop-drop}
+use Rattle.std.proofs.Common.{◌≡◌, ℕ, zero, suc, ◌+◌, ◌<◌, ◌≤◌, List, [], ◌∷◌, ◌++◌, length, get_or, take, drop, pos, sym, ap, ◌∙◌, append_assoc, append-nil, add-zero, arith, length-append, drop-drop, take_all}
 use lib.Seq.{take-append_seam, drop-append-add}
 use Rattle.std.specs.List.{flat_map}
-use Rattle.std.proofs.lemmas.List.{flat_map_more}
+use Rattle.std.proofs.lemmas.List.{flat_map_more, take_more}
 use Rattle.language.specs.declared.operation.Operation.TheVariants.{Set}
 use Rattle.language.specs.declared.word.Word.{Word}
 use Rattle.language.specs.Code.{word_bytes}
 use Rattle.language.specs.Translation.{small, clears}
-use Rattle.translation.specs.declared.words.Words.{Words}
-use Rattle.translation.specs.declared.words.Words.TheVariants.{One, Two, Three}
 use Rattle.translation.specs.Buffers.{over, Appends}
-use Rattle.translation.specs.Listed.{listed}
 
 -- one run of bytes that replaces others of its length
 pub put_appends : (at n : ℕ) (bs out out' : List ℕ) → n ≡ length bs → out' ≡ take at out ++ (bs ++ drop (at + n) out) → Appends at bs out out' (at + n)
@@ -52,17 +49,12 @@ clears_more p (suc q) =
     let f : suc p + q ≡ p + suc q = omega arith in
     ap (clears p) e ∙ ap (λ ws. small (Set p (pos 0)) ∷ ws) (clears_more (suc p) q ∙ ap (λ n. clears (suc p) q ++ small (Set n (pos 0)) ∷ []) f)
 
--- the words of an instruction, by how many they are
-module _ (ws : Words) (at : ℕ) (out : List ℕ) where
-  pub one_append : (a : Word) (out' : List ℕ) (r : ℕ) → ws ≡ One a → Appends at (word_bytes a) out out' r → Appends at (flat_map word_bytes (listed ws)) out out' r
-  one_append a out' r e p = rw e (word_appends at out a out' r p)
+-- a word more of a list that is written one by one, and all of them
+pub next_appends : (at m r i : ℕ) (ws : List Word) (d : Word) (out out' out'' : List ℕ) → i < length ws → Appends at (flat_map word_bytes (take i ws)) out out' m → Appends m (word_bytes (get_or ws i d)) out' out'' r → Appends at (flat_map word_bytes (take (i + 1) ws)) out out'' r
+next_appends at m r i ws d out out' out'' l a b = let e = take_more ws i d l in rw e (more_appends at out (take i ws) (get_or ws i d) out' out'' m r a b)
 
-  pub two_append : (a b : Word) (out' out'' : List ℕ) (m r : ℕ) → ws ≡ Two a b → Appends at (word_bytes a) out out' m → Appends m (word_bytes b) out' out'' r → Appends at (flat_map word_bytes (listed ws)) out out'' r
-  two_append a b out' out'' m r e p q = rw e (words_append at out a (b ∷ []) out' out'' m r p (word_appends m out' b out'' r q))
-
-  pub three_append : (a b c : Word) (out' out'' out''' : List ℕ) (m n r : ℕ) → ws ≡ Three a b c → Appends at (word_bytes a) out out' m → Appends m (word_bytes b) out' out'' n → Appends n (word_bytes c) out'' out''' r → Appends at (flat_map word_bytes (listed ws)) out out''' r
-  three_append a b c out' out'' out''' m n r e p q s =
-      rw e (words_append at out a (b ∷ c ∷ []) out' out''' m r p (words_append m out' b (c ∷ []) out'' out''' n r q (word_appends n out'' c out''' r s)))
+pub all_append : (at m i : ℕ) (ws : List Word) (out out' : List ℕ) → length ws ≤ i → Appends at (flat_map word_bytes (take i ws)) out out' m → Appends at (flat_map word_bytes ws) out out' m
+all_append at m i ws out out' l a = let e = take_all i ws l in rw e at a
 
 -- a word for each local, one more
 pub clears_append : (p q at m r : ℕ) (out out' out'' : List ℕ) (w : Word) → w ≡ small (Set (p + q) (pos 0)) → Appends at (flat_map word_bytes (clears p q)) out out' m → Appends m (word_bytes w) out' out'' r → Appends at (flat_map word_bytes (clears p (q + 1))) out out'' r

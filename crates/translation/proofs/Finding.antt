@@ -1,8 +1,9 @@
 -- A heading that is found is one of the table's records, and its address is known.
-use Rattle.std.proofs.Common.{◌≡◌, ℕ, ◌<◌, List, length, get_or, Some, None, sym, ap, ◌∙◌, arith}
+use Rattle.std.proofs.Common.{◌≡◌, ℕ, ◌<◌, List, length, get_or, Some, None, Option, IfSome, MatchOption, sym, ◌∙◌, arith}
+use Rattle.few.specs.Held.{held}
 use Rattle.language.specs.declared.record.Record.{Record}
 use Rattle.language.specs.Lines.{lines, heads_routine, heads_block, routine_place, block_place}
-use Rattle.language.specs.Translation.{found_address, routine_address_of, block_address_of}
+use Rattle.language.specs.Translation.{found_address}
 use Rattle.language.proofs.Lists.{nth_below, place_in}
 use Rattle.language.proofs.Lines.{length-lines}
 use Rattle.translation.specs.declared.addresses.Addresses.{Addresses}
@@ -17,9 +18,15 @@ module _ (t : List Record) where
   pub routine_below : (g j : ℕ) → Some j ≡ routine_place t g → j < length t
   routine_below g j e = let b = place_in (heads_routine g) t j (sym e) in nth_below t j b.0 b.1
 
-  module _ (a : Addresses) (known : Addressed t a) where
-    pub block_found : (r l j : ℕ) → Some j ≡ block_place t r l → get_or a.of j 0 ≡ block_address_of t r l
-    block_found r l j e = known.each j (block_below r l j e) ∙ ap (found_address t) e
+  pub block_there : (r l : ℕ) (o : Option ℕ) → o ≡ block_place t r l → IfSome o (λ j. j < length t)
+  block_there r l None e = tt
+  block_there r l (Some j) e = block_below r l j e
 
-    pub routine_found : (g j : ℕ) → Some j ≡ routine_place t g → get_or a.of j 0 ≡ routine_address_of t g
-    routine_found g j e = known.each j (routine_below g j e) ∙ ap (found_address t) e
+  pub routine_there : (g : ℕ) (o : Option ℕ) → o ≡ routine_place t g → IfSome o (λ j. j < length t)
+  routine_there g None e = tt
+  routine_there g (Some j) e = routine_below g j e
+
+  -- the address of what was found, or 0
+  pub address_is : (a : Addresses) → Addressed t a → (o : Option ℕ) (r : ℕ) → IfSome o (λ j. j < length t) → MatchOption o (r ≡ 0) (λ j. r ≡ get_or (held a.of) j 0) → r ≡ found_address t o
+  address_is a known None r there is = is
+  address_is a known (Some j) r there is = is ∙ known.each j there

@@ -1,6 +1,5 @@
 pub mod Finding
 pub mod Entering
-pub mod Passing
 pub mod Collecting
 pub mod Appending
 pub mod Recording

@@ -7,12 +7,12 @@ use Rattle.language.specs.Code.{word_bytes, code}
 use Rattle.language.specs.Translation.{size, address, words, line_words, translation}
 use Rattle.language.proofs.Lists.{clash}
 use Rattle.language.proofs.Lines.{length-lines}
-use Rattle.translation.specs.declared.context.Context.{Context}
+use Rattle.scopes.specs.declared.scope.Scope.{Scope}
 use Rattle.translation.specs.Buffers.{over, Appends}
-use Rattle.translation.specs.Contexts.{start, context_at}
+use Rattle.scopes.specs.Scopes.{nowhere, scope_at}
 use Rattle.translation.proofs.Appending.{none_appends, then_appends}
 use Rattle.translation.proofs.Collecting.{address_more, address_below}
-use Rattle.translation.proofs.Passing.{Under, under_start, next}
+use Rattle.scopes.proofs.Scoped.{Under, under_start, under_next}
 
 joined_both : {X Y : Type 0} (f : X → List Y) (xs ys : List X) → flat_map f (xs ++ ys) ≡ flat_map f xs ++ flat_map f ys
 joined_both f [] ys = refl
@@ -27,31 +27,31 @@ joined_next f (y ∷ xs) (suc i) x e = ap (λ zs. f y ++ zs) (joined_next f xs i
 abbrev pub front_code : List Record → ℕ → List ℕ
 front_code t i = flat_map word_bytes (flat_map (line_words t) (take i (lines t)))
 
-pub record Tabled (t : List Record) (i : ℕ) (c : Context) (at : ℕ) (out out' : List ℕ) : Type 0 where
+pub record Tabled (t : List Record) (i : ℕ) (c : Scope) (at : ℕ) (out out' : List ℕ) : Type 0 where
   pub under : Under t i c
   pub place : at ≡ 8 * address t i
   pub appends : Appends 0 (front_code t i) out out' at
 
-pub tabled_start : (t : List Record) (c : Context) (out : List ℕ) → c ≡ start → Tabled t 0 c 0 out out
+pub tabled_start : (t : List Record) (c : Scope) (out : List ℕ) → c ≡ nowhere → Tabled t 0 c 0 out out
 tabled_start t c out e = record { under = under_start t c e; place = refl; appends = none_appends 0 out }
 
-module _ (t : List Record) (i : ℕ) (c c' : Context) (x : Record) (at : ℕ) (out out' : List ℕ) (so_far : Tabled t i c at out out') (on : slice_get t i ≡ Some x) (is : c' ≡ context_at c x) where
+module _ (t : List Record) (i : ℕ) (c c' : Scope) (x : Record) (at : ℕ) (out out' : List ℕ) (so_far : Tabled t i c at out out') (on : slice_get t i ≡ Some x) (is : c' ≡ scope_at c x) where
   pub record_room : (n : ℕ) → 8 * length (translation t) ≤ n → at + 8 * size c'.handler x ≤ n
   record_room n l = omega (arith, so_far.place, address_more t i c c' x so_far.under on is, address_below t (i + 1))
 
   pub tabled_more : (out'' : List ℕ) (m : ℕ) → m ≡ at + 8 * size c'.handler x → Appends at (flat_map word_bytes (words t c'.routine c'.handler x)) out' out'' m → Tabled t (i + 1) c' m out out''
   tabled_more out'' m e a =
-      let n = next t i c c' x so_far.under on is in
+      let n = under_next t i c so_far.under x c' on is in
       let w = words t c'.routine c'.handler x in
       let f : front_code t (i + 1) ≡ front_code t i ++ flat_map word_bytes w =
-      ap (λ k. front_code t k) (add-one i) ∙ ap (flat_map word_bytes) (joined_next (line_words t) (lines t) i _ n.here) ∙ joined_both word_bytes (flat_map (line_words t) (take i (lines t))) w in
+      ap (λ k. front_code t k) (add-one i) ∙ ap (flat_map word_bytes) (joined_next (line_words t) (lines t) i _ n.1.is) ∙ joined_both word_bytes (flat_map (line_words t) (take i (lines t))) w in
       record {
-        under = n.under;
+        under = n.0;
         place = omega (arith, so_far.place, address_more t i c c' x so_far.under on is);
         appends = rw f (then_appends 0 at m (front_code t i) (flat_map word_bytes w) out out' out'' so_far.appends a);
       }
 
-module _ (t : List Record) (i : ℕ) (c : Context) (at : ℕ) (out out' : List ℕ) (so_far : Tabled t i c at out out') (end : length t ≤ i) where
+module _ (t : List Record) (i : ℕ) (c : Scope) (at : ℕ) (out out' : List ℕ) (so_far : Tabled t i c at out out') (end : length t ≤ i) where
   whole : front_code t i ≡ code t
   unfolding code translation
   whole = ap (λ ls. flat_map word_bytes (flat_map (line_words t) ls)) (take_all i (lines t) (omega (arith, length-lines t 0 0 None)))

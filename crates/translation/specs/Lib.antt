@@ -1,6 +1,5 @@
-pub mod Contexts
 pub mod Addressing
-pub mod Listed
+pub mod Layouts
 pub mod Buffers
 pub mod Numbers
 pub mod Answers

@@ -3,16 +3,15 @@ ghost use Rattle.language.specs.Translation.{jumps as jumps_of, size as size_in_
 ghost use Rattle.language.specs.WellFormed.{WellFormed};
 ghost use Rattle.translation.specs.Addressing.{Addressed};
 
-use super::context::Context;
+use few::Few;
 use language::{Handler, Instruction, Record};
-
-/// The most records that a table has.
-pub const MOST_RECORDS: usize = 256;
+use scopes::Scope;
+use table::MOST_RECORDS;
 
 /// Where the words of each record begin, and how many words there are in all.
 #[derive(Drop)]
 pub struct Addresses {
-    pub of: [u16; MOST_RECORDS],
+    pub of: Few<u16, MOST_RECORDS>,
     pub words: u16,
 }
 
@@ -21,13 +20,13 @@ pub fn find_addresses(records: &[Record]) -> Addresses
     requires { WellFormed records.now }
     ensures { Addressed records.now result }
 {
-    let mut of = [0; MOST_RECORDS];
+    let mut of = Few::new(0);
     let mut words = 0;
-    let mut context = Context::start();
-    for (place, next) in records.iter().enumerate() {
-        context = context.at(*next);
-        of[place] = words;
-        words += size(context.handler, *next);
+    let mut scope = Scope::nowhere();
+    for next in records {
+        scope = scope.at(*next);
+        of.push(words).unwrap();
+        words += size(scope.handler, *next);
     }
     Addresses { of, words }
 }
@@ -53,8 +52,5 @@ fn size(handler: Option<Handler>, of: Record) -> u16
 fn jumps(handler: Option<Handler>) -> u16
     ensures { result ≡ jumps_of handler }
 {
-    match handler {
-        Some(_) => 1,
-        None => 0,
-    }
+    u16::from(handler.is_some())
 }

@@ -3,17 +3,14 @@
 #![tactic(auto)]
 
 mod addresses;
-mod context;
 mod encoding;
 mod fault;
 mod laws;
-mod targets;
+mod layout;
 mod translating;
-mod words;
-mod writing;
 
 pub use encoding::encode;
 pub use fault::{ShortBuffer, TranslationFault};
 pub use laws::one_answer_fits;
-pub use targets::entry_address;
+pub use layout::entry_address;
 pub use translating::{MOST_BYTES, translate, translate_bytes, translate_table};

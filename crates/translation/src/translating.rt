@@ -3,9 +3,8 @@ ghost use Rattle.table.specs.Checked.{records_of};
 ghost use Rattle.translation.specs.Answers.{Translates, Answers, Told};
 ghost use Rattle.translation.specs.Numbers.{number, refusal_place};
 
-use super::addresses::find_addresses;
 use super::fault::{ShortBuffer, TranslationFault};
-use super::writing::put_table;
+use super::layout::Layout;
 use table::{Table, check};
 
 /// The most bytes that a translation has: 976 words of eight.
@@ -16,11 +15,11 @@ pub const MOST_BYTES: usize = 7808;
 pub fn translate_table(table: &Table, out: &mut [u8]) -> Result<usize, ShortBuffer>
     ensures { Translates (records_of table.now) out.old out.new result }
 {
-    let addresses = find_addresses(table.records());
-    if out.len() < 8 * usize::from(addresses.words) {
+    let layout = Layout::of(table);
+    if out.len() < layout.bytes() {
         return Err(ShortBuffer);
     }
-    Ok(put_table(out, table, &addresses))
+    Ok(layout.put(out))
 }
 
 /// Checks the bytes of a table, and translates it.
@@ -28,12 +27,11 @@ pub fn translate_bytes(bytes: &[u8], out: &mut [u8]) -> Result<usize, Translatio
     ensures { Answers bytes.now out.old out.new result }
 {
     let table = check(bytes)?;
-    let written = translate_table(&table, out)?;
-    Ok(written)
+    Ok(translate_table(&table, out)?)
 }
 
-/// The same for a caller in C: how many bytes were written, or −(cause × 1000 + place).
-/// `translation_c` exports it.
+/// The same for a caller in C, which takes one number: how many bytes were written, or
+/// −(cause × 1000 + place). `translation_c` exports it.
 pub fn translate(table: &[u8], out: &mut [u8]) -> i32
     ensures { Told table.now out.old out.new result }
 {

@@ -1,4 +1,4 @@
-ghost use Rattle.std.specs.Prelude.{◌≡◌, [], length, take};
+ghost use Rattle.std.specs.Prelude.{◌≡◌, ◌≤◌, [], length, take};
 ghost use Rattle.few.specs.Held.{held, Pushed, Popped};
 
 use super::super::full::Full;
@@ -17,9 +17,10 @@ impl<T: Copy, const N: usize> Few<T, N> {
 
     /// How many values there are.
     pub fn len(&self) -> usize
-        ensures { result ≡ length (held self.now) }
+        ensures count { result ≡ length (held self.now) }
+        ensures few { result ≤ N }
     {
-        self.count
+        self.as_slice().len()
     }
 
     /// The values, in the order in which they came.

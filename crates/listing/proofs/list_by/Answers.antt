@@ -12,4 +12,4 @@ returns-in-Ok c =
 pub returns-in-Err : goal.returns-in-Err
 returns-in-Err c =
     let bs = c.args.bytes.now in
-    IfOk-weaker c.refusal_text.result _ (λ s. Lists bs (string_bytes s)) (λ s e. told bs c.args.code.now c.translate_bytes.new.out c.in-Err.fault c.layer.result c.cause.result c.place.result (string_bytes s) c.requires c.in-Err.ensures c.layer.ensures c.cause.ensures c.place.ensures e) c.refusal_text.ensures
+    IfOk-weaker c.refusal_text.result _ (λ s. Lists bs (string_bytes s)) (λ s e. told bs c.args.code.now c.translate_bytes.new.out c.in-Err.fault (string_bytes s) c.requires c.in-Err.ensures e) c.refusal_text.ensures

@@ -1,0 +1,14 @@
+ghost use Rattle.std.specs.Prelude.{Some};
+ghost use Rattle.translation.specs.Numbers.{refusal_text};
+
+use super::TranslationFault;
+use std::fmt;
+
+/// `LAYER CAUSE PLACE`, in decimal.
+impl fmt::Display for TranslationFault {
+    ghost output = { λ f. Some (refusal_text f) };
+
+    fn fmt<W: fmt::Write>(&self, f: &mut fmt::Formatter<W>) -> fmt::Result {
+        write!(f, "{} {} {}", self.layer(), self.cause(), self.place())
+    }
+}
