@@ -3,6 +3,7 @@ ghost use Rattle.bench.specs.Bounds.{feeder_count, most_in_feeder};
 
 use bench::{Angle, Feeder, Site};
 
+mod parts;
 mod serve;
 mod set_up;
 
