@@ -15,3 +15,7 @@ module _ {T U : Type 0} (n : ℕ) (xs : List T) (x : T) where
   pub push_fits : (r : Result U Full) (ys : List T) → length xs < n → Pushed n xs x r ys → IsOk r
   push_fits (Ok v) ys l p = refl
   push_fits (Err f) ys l p = absurd (omega (arith, p.0))
+
+  pub push_adds : (r : Result U Full) (ys : List T) → length xs < n → Pushed n xs x r ys → ys ≡ xs ++ x ∷ []
+  push_adds (Ok v) ys l p = p.1
+  push_adds (Err f) ys l p = absurd (omega (arith, p.0))
