@@ -1,6 +1,7 @@
 -- What is picked from a list one by one, and the lines of a table one by one.
-use Rattle.std.proofs.Common.{◌≡◌, ℕ, zero, suc, ◌+◌, ◌<◌, ◌≤◌, List, [], ◌∷◌, ◌++◌, length, drop, Some, None, Option, sym, refl, ap, ◌∙◌, subst, append_assoc, append-nil, add-one, arith, length-append}
+use Rattle.std.proofs.Common.{◌≡◌, ℕ, suc, ◌+◌, ◌<◌, ◌≤◌, List, [], ◌∷◌, ◌++◌, length, drop, Some, None, Option, sym, refl, ap, ◌∙◌, subst, append_assoc, append-nil, add-one, arith, length-append}
 use Rattle.std.specs.List.{slice_get}
+use Rattle.std.proofs.lemmas.List.{drop_all}
 use Rattle.language.specs.declared.handler.Handler.{Handler}
 use Rattle.language.specs.declared.instruction.Instruction.{Instruction}
 use Rattle.language.specs.declared.record.Record.{Record}
@@ -14,12 +15,6 @@ use Rattle.scopes.proofs.Scoped.{drop_nth, Under, under_start, Lined, under_next
 use Rattle.table.specs.Entries.{kept, picked, routine_entry, block_entry, routine_entries, block_entries}
 use Rattle.scopes.specs.Scopes.{nowhere, scope_at}
 
-drop_past : {X : Type 0} (xs : List X) (p : ℕ) → length xs ≤ p → drop p xs ≡ []
-drop_past [] zero l = refl
-drop_past [] (suc p) l = refl
-drop_past (x ∷ xs) zero l = absurd (omega arith)
-drop_past (x ∷ xs) (suc p) l = drop_past xs p (omega arith)
-
 module _ {X E : Type 0} (pick : ℕ → X → Option E) (xs : List X) where
   -- es are picked up to p, and the rest follows
   pub record Picked (es : List E) (p : ℕ) : Type 0 where
@@ -29,7 +24,7 @@ module _ {X E : Type 0} (pick : ℕ → X → Option E) (xs : List X) where
   picked_start = record { all = refl }
 
   pub picked_done : (es : List E) (p : ℕ) → length xs ≤ p → Picked es p → es ≡ picked pick 0 xs
-  picked_done es p l far = sym (append-nil es) ∙ ap (λ v. es ++ picked pick p v) (sym (drop_past xs p l)) ∙ far.all
+  picked_done es p l far = sym (append-nil es) ∙ ap (λ v. es ++ picked pick p v) (sym (drop_all p xs l)) ∙ far.all
 
   module _ (es : List E) (p : ℕ) (far : Picked es p) (x : X) (is : slice_get xs p ≡ Some x) where
     split : es ++ kept (pick p x) (picked pick (suc p) (drop (suc p) xs)) ≡ picked pick 0 xs

@@ -3,6 +3,7 @@ use Rattle.std.proofs.Common.{◌≡◌, ℕ, zero, suc, ◌+◌, ◌*◌, ◌/�
 use Rattle.std.specs.List.{slice_get, AllByRecursion, flat_map}
 use Rattle.std.specs.Simd.{first_chunks}
 use Rattle.std.proofs.lemmas.List.{take_more, map-append, length-map}
+use Rattle.std.proofs.lemmas.List.Folds.{flat_map-map}
 use Rattle.std.proofs.lemmas.Option.{slice_get-get_or}
 use Rattle.language.specs.declared.cause.RecordCause.{RecordCause}
 use Rattle.language.specs.declared.cause.RecordCause.TheVariants.{Length, Letter, Range, Padding}
@@ -97,10 +98,6 @@ module _ (bs : List ℕ) (whole : Whole bs) (t : List Record) (p : ℕ) (far : S
       let is = slice_get-get_or (rows bs) p [] on in
       record { here = here (get_or (rows bs) p []) is k h; before = before; lower = λ j. lower (get_or (rows bs) p []) is k h j p refl }
 
-joined_rows : (t : List Record) → flat_map encode t ≡ flat_map (λ (r : List ℕ). r) (map encode t)
-joined_rows [] = refl
-joined_rows (x ∷ t) = ap (λ (r : List ℕ). encode x ++ r) (joined_rows t)
-
 joined_chunked : (k : ℕ) (xs : List ℕ) → length xs ≡ 8 * k → flat_map (λ (r : List ℕ). r) (first_chunks 8 k xs) ≡ xs
 joined_chunked zero [] e = refl
 joined_chunked zero (x ∷ xs) e = absurd (omega arith)
@@ -124,7 +121,7 @@ done bs whole t p far all =
     let m : length t ≡ length bs / 8 = sym (length-map t encode) ∙ ap length e ∙ n in
     let k : length bs ≡ 8 * (length bs / 8) = omega arith in
     record {
-      same = joined_rows t ∙ ap (flat_map (λ (r : List ℕ). r)) e ∙ joined_chunked (length bs / 8) bs k;
+      same = sym (flat_map-map (λ (r : List ℕ). r) encode t) ∙ ap (flat_map (λ (r : List ℕ). r)) e ∙ joined_chunked (length bs / 8) bs k;
       legible = record { some = omega arith; few = omega arith; ranged = far.ranged };
     }
 
