@@ -1,4 +1,3 @@
-pub mod Slots
 pub mod Lettering
 pub mod Coding
 pub mod Programs

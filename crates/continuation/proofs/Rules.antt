@@ -1,5 +1,5 @@
 -- The rules of a step, from what the machine's moves leave.
-use Rattle.std.proofs.Common.{◌≡◌, ℕ, suc, ◌<◌, ◌≤◌, Bool, true, false, List, map, length, take, set, ℤ, pos, Some, None, Ok, Err, Option, sym, refl, ap, ◌∙◌, subst, arith}
+use Rattle.std.proofs.Common.{◌≡◌, ℕ, suc, ◌<◌, ◌≤◌, Bool, true, false, List, map, length, take, set, ℤ, pos, Some, None, Ok, Err, Option, Result, sym, refl, ap, ◌∙◌, subst, arith}
 use mathlib.Core.Logic.{∥∥₁_elim}
 use native.Mathlib.Bridge.{le_prop}
 use lib.Signed.{le_z}
@@ -14,6 +14,7 @@ use Rattle.continuation.specs.declared.machine.Machine.{Machine}
 use Rattle.continuation.specs.Views.{cell_of, landing_of}
 use Rattle.continuation.specs.declared.cell.Cell.{Cell as Kept}
 use Rattle.continuation.specs.declared.cell.Landing.{Landing as Lands}
+use Rattle.few.specs.declared.full.Full.{Full}
 use Rattle.language.proofs.CodeWords.{word_code}
 use Rattle.language.proofs.Inside.{going_counter, resume_cell, throw_cell}
 use Rattle.language.proofs.Lists.{clash, nth_below}
@@ -24,10 +25,12 @@ use Rattle.language.specs.CodeWords.{WordAt, Limited}
 use Rattle.language.specs.Configurations.{Cell, Configuration, content, moved, faulted, handed}
 use Rattle.language.specs.Continuation.{CodeStep}
 use Rattle.language.specs.Following.{Going}
+use Rattle.language.specs.Progress.{progressed}
 use Rattle.language.specs.Runs.{running, ended, value, difference, with_arguments}
 use Rattle.language.specs.Steps.{Fetches, set_to, assign, subtract, answered, fault, save, exhaust, enter, jump, resume, finish, throw, uncaught, test, test_not}
 use Rattle.language.specs.Translation.{translation}
 use Rattle.language.specs.WellFormed.{WellFormed}
+use Rattle.language.specs.declared.ending.Ending.{Ending}
 use Rattle.language.specs.declared.ending.Ending.TheVariants.{Returned, Raised, Exhausted}
 use Rattle.language.specs.declared.operation.Operation.{Operation}
 use Rattle.language.specs.declared.operation.Operation.TheVariants.{Set, Assign, Subtract, Ask, Save, Enter, Jump, Resume, Test, Throw}
@@ -90,11 +93,10 @@ module _ (t : List Record) (ok : WellFormed t) (s : Configuration) where
     pub by_subtract : (x y z : ℕ) (v : ℤ) → Fetches At s (Subtract x y z) → v ≡ difference (value s.variables y) (value s.variables z) → s' ≡ moved s (suc s.counter) (set s.variables x v) → CodeStep t s b (running s') b
     by_subtract x y z v f ev is = subst (λ u. CodeStep t s b (running u) b) (ap (λ w. moved s (suc s.counter) (set s.variables x w)) (sym ev) ∙ sym is) (subtract f)
 
-    pub by_save : (x : ℕ) (c : Option ℕ) → Fetches At s (Save x c) → Saved s x c true s' → CodeStep t s b (running s') b
-    by_save x c f (room, is) = subst (λ u. CodeStep t s b (running u) b) (sym is) (save f room)
-
-    pub by_exhaust : (x : ℕ) (c : Option ℕ) → Fetches At s (Save x c) → Saved s x c false s' → CodeStep t s b (ended Exhausted) b
-    by_exhaust x c f (full, is) = exhaust f (omega (arith, full))
+    pub by_save : (x : ℕ) (c : Option ℕ) (r : Result (Unit {0}) Full) (p : Result (Unit {0}) Ending) → Fetches At s (Save x c) →
+        ((d : Unit {0}) → r ≡ Ok d → p ≡ Ok d) → ((e : Full) → r ≡ Err e → p ≡ Err Exhausted) → Saved s x c r s' → CodeStep t s b (progressed p s') b
+    by_save x c (Ok d) p f made none (room, is) = subst (λ q. CodeStep t s b (progressed q s') b) (sym (made d refl)) (subst (λ u. CodeStep t s b (running u) b) (sym is) (save f room))
+    by_save x c (Err e) p f made none (full, is) = subst (λ q. CodeStep t s b (progressed q s') b) (sym (none e refl)) (exhaust f (omega (arith, full)))
 
     pub by_enter : (n a : ℕ) (ys : List ℕ) → Fetches At s (Enter n a ys) → s' ≡ moved s a (with_arguments (map (value s.variables) (take n ys))) → CodeStep t s b (running s') b
     by_enter n a ys f is = subst (λ u. CodeStep t s b (running u) b) (sym is) (enter f)
@@ -116,11 +118,11 @@ module _ (t : List Record) (ok : WellFormed t) (s : Configuration) where
         s' ≡ handed s i (cell_of c) l.catch l.address v → CodeStep t s b (running s') b
     by_throw x i c l v f k at land ev is = subst (λ u. CodeStep t s b (running u) b) (ap (handed s i (cell_of c) l.catch l.address) (sym ev) ∙ sym is) (throw i f k at (ap landing_of land))
 
-  pub by_finish : (b : Standing) (x : ℕ) (v : ℤ) → Fetches At s (Resume x) → s.continuation ≡ None → v ≡ value s.variables x → CodeStep t s b (ended (Returned v)) b
-  by_finish b x v f k ev = subst (λ u. CodeStep t s b (ended (Returned u)) b) (sym ev) (finish f k)
+  pub by_finish : (b : Standing) (s' : Configuration) (x : ℕ) (v : ℤ) (p : Result (Unit {0}) Ending) → Fetches At s (Resume x) → s.continuation ≡ None → v ≡ value s.variables x → p ≡ Err (Returned v) → CodeStep t s b (progressed p s') b
+  by_finish b s' x v p f k ev ep = subst (λ q. CodeStep t s b (progressed q s') b) (sym ep) (subst (λ u. CodeStep t s b (ended (Returned u)) b) (sym ev) (finish f k))
 
-  pub by_uncaught : (b : Standing) (x : ℕ) (v : ℤ) → Fetches At s (Throw x) → s.handler ≡ None → v ≡ content s x → CodeStep t s b (ended (Raised v)) b
-  by_uncaught b x v f k ev = subst (λ u. CodeStep t s b (ended (Raised u)) b) (sym ev) (uncaught f k)
+  pub by_uncaught : (b : Standing) (s' : Configuration) (x : ℕ) (v : ℤ) (p : Result (Unit {0}) Ending) → Fetches At s (Throw x) → s.handler ≡ None → v ≡ content s x → p ≡ Err (Raised v) → CodeStep t s b (progressed p s') b
+  by_uncaught b s' x v p f k ev ep = subst (λ q. CodeStep t s b (progressed q s') b) (sym ep) (subst (λ u. CodeStep t s b (ended (Raised u)) b) (sym ev) (uncaught f k))
 
   -- the bench's answer, as its contract tells it
   module _ (b b' : Standing) (x op y c : ℕ) (f : Fetches At s (Ask x op y c)) (a : Answer) (o n : ℤ) (asked : o ≡ pos op) (with : n ≡ value s.variables y) (answer : a ≡ (respond b o n).0) (after : b' ≡ (respond b o n).1) where

@@ -1,5 +1,4 @@
 pub mod Views
-pub mod Filling
 pub mod Decoding
 pub mod Programs
 pub mod Machines

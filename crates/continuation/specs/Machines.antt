@@ -1,8 +1,9 @@
 -- What the machine stands for in the rules, and what its moves do.
-use Rattle.std.specs.Prelude.{◌≡◌, ℕ, suc, ◌<◌, Bool, true, false, length, ℤ, Option, slice_set}
+use Rattle.std.specs.Prelude.{◌≡◌, ℕ, suc, ◌<◌, Bool, true, false, length, ℤ, Ok, Err, Option, Result, slice_set}
 use Rattle.continuation.specs.Views.{filled_cells}
 use Rattle.continuation.specs.declared.cell.Cell.{Cell}
 use Rattle.continuation.specs.declared.machine.Machine.{Machine}
+use Rattle.few.specs.declared.full.Full.{Full}
 use Rattle.language.specs.Configurations.{cell_count, Configuration, moved, saved}
 
 abbrev pub configuration : Machine → Configuration
@@ -14,9 +15,9 @@ tested s true = moved s (suc s.counter) s.variables
 tested s false = moved s (suc (suc s.counter)) s.variables
 
 -- the next cell is filled, or none is free
-abbrev pub Saved : Configuration → ℕ → Option ℕ → Bool → Configuration → Type 0
-Saved s x c true s' = (length s.cells < cell_count) × (s' ≡ saved s x c)
-Saved s x c false s' = (length s.cells ≡ cell_count) × (s' ≡ s)
+abbrev pub Saved : Configuration → ℕ → Option ℕ → Result (Unit {0}) Full → Configuration → Type 0
+Saved s x c (Ok d) s' = (length s.cells < cell_count) × (s' ≡ saved s x c)
+Saved s x c (Err e) s' = (length s.cells ≡ cell_count) × (s' ≡ s)
 
 -- what the cell saved comes back, with a value for its variable x, at an address; the cells stay
 abbrev pub Handed : Configuration → Cell → ℕ → ℕ → ℤ → Configuration → Type 0

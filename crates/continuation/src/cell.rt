@@ -1,7 +1,7 @@
 use variables::Variables;
 
 /// Where a raised value lands: in the catch variable, and the run goes on at the address.
-#[derive(Clone, Copy)]
+#[derive(Clone, Copy, PartialEq, Eq, Debug)]
 pub struct Landing {
     pub catch: u8,
     pub address: u16,
@@ -10,7 +10,7 @@ pub struct Landing {
 /// What a save puts aside: the variable that is to have the result, the address of the rest, where a
 /// raised value lands if it may land here, the variables, and the continuation and the handler of before,
 /// which are cells told by their place.
-#[derive(Clone, Copy)]
+#[derive(Clone, Copy, PartialEq, Eq, Debug)]
 pub struct Cell {
     pub result: u8,
     pub rest: u16,

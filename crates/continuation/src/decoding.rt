@@ -10,10 +10,8 @@ pub fn decode(bytes: [u8; 8]) -> Option<Word>
     let [kind, a, b, c, d, e, f, g] = bytes;
     let opens = kind <= b'Z';
     let capital = if opens { kind } else { kind - 32 };
-    match read([capital, a, b, c, d, e, f, g]) {
-        Some(operation) => Some(Word { opens, operation }),
-        None => None,
-    }
+    let operation = read([capital, a, b, c, d, e, f, g])?;
+    Some(Word { opens, operation })
 }
 
 /// One row of the match for each operation: its capital letter, its fields, and 0 where it has none.

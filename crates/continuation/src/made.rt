@@ -1,7 +1,7 @@
 use language::Progress;
 
 /// What beats came to: where the run is, how many beats were made, and in how many steps.
-#[derive(Clone, Copy)]
+#[derive(Clone, Copy, PartialEq, Eq, Debug)]
 pub struct Made {
     pub progress: Progress,
     pub beats: u32,

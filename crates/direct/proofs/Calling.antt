@@ -1,32 +1,35 @@
 -- The calls of a stand, from what its parts do.
-use Rattle.std.proofs.Common.{◌≡◌, ℕ, ◌+◌, ◌<◌, ◌≤◌, List, [], length, ℤ, pos, Some, None, Ok, Option, sym, refl, ap, ◌∙◌, subst, add-one, arith}
-use mathlib.Core.Logic.{∥∥₁_elim, ∥∥₁_map}
+use Rattle.std.proofs.Common.{◌≡◌, ℕ, ◌+◌, ◌<◌, ◌≤◌, List, [], length, ℤ, pos, Some, None, Ok, Err, Option, Result, sym, refl, ap, ◌∙◌, subst, add-one, arith}
+use mathlib.Core.Logic.{∥∥₁_map}
 use Rattle.bench.proofs.Rules.{respond_responds}
 use Rattle.bench.specs.Respond.{respond}
 use Rattle.bench.specs.Responds.{Answer as Reply, Responds}
 use Rattle.bench.specs.declared.state.State.{State as Standing}
-use Rattle.direct.proofs.Known.{no_prop, known_reachable}
+use Rattle.direct.proofs.Known.{known_reachable}
 use Rattle.direct.proofs.Programs.{formed}
 use Rattle.direct.specs.Going.{Went}
-use Rattle.direct.specs.Keeping.{Keeps}
+use Rattle.direct.specs.Keeping.{Keeps, run_at}
+use Rattle.direct.specs.Machines.{state_of}
 use Rattle.direct.specs.Programs.{records_in}
 use Rattle.direct.specs.Stands.{go_answer}
 use Rattle.direct.specs.declared.gone.Gone.{Gone}
 use Rattle.direct.specs.declared.program.Program.{Program}
+use Rattle.direct.specs.declared.run.Run.{Run as Started}
 use Rattle.language.proofs.DirectCalls.{begins_reached, keeps_reached as stays_reached}
 use Rattle.language.proofs.Lists.{all_nth, nth_below}
 use Rattle.language.proofs.SoundCalls.{goes_good}
 use Rattle.language.specs.Asked.{Asked}
 use Rattle.language.specs.Bytes.{InRange}
-use Rattle.language.specs.Calls.{Stand, start, go, jog, done, start_refused, replied, went, progress_number, progress_value, starts, start_miscounted, goes, jogs}
+use Rattle.language.specs.Calls.{Stand, start, go, jog, done, start_refused, replied, went, progress_number, progress_value, starts, start_miscounted, goes, go_too_far, jogs}
 use Rattle.language.specs.Direct.{direct_begin, DirectBeat, DirectGoes, DirectCalls}
 use Rattle.language.specs.Progress.{progressed, run_of}
 use Rattle.language.specs.Reachable.{Reachable, ReachableRun}
 use Rattle.language.specs.Runs.{variable_count, State, Run, running, with_arguments}
+use Rattle.language.specs.declared.ending.Ending.{Ending}
 use Rattle.language.specs.declared.ending.Ending.TheVariants.{Returned, Raised, Exhausted}
-use Rattle.language.specs.declared.progress.Progress.{Progress}
-use Rattle.language.specs.declared.progress.Progress.TheVariants.{Running, Ended}
 use Rattle.language.specs.declared.record.Record.{Record}
+use Rattle.language.specs.declared.refusal.GoRefusal.{GoRefusal}
+use Rattle.language.specs.declared.refusal.GoRefusal.TheVariants.{BeatCount}
 use Rattle.language.specs.declared.refusal.StartRefusal.TheVariants.{ArgumentCount}
 use Rattle.table.specs.Mains.{StartsWith}
 use Rattle.table.specs.declared.entry_point.Main.{Main}
@@ -62,17 +65,17 @@ module _ (p : Program) (m : Main) (vs : List ℤ) (main : StartsWith (records_in
   main_below = omega (arith, nth_below t m.place _ main.here.there, (formed p).legible.few)
 
 -- what is told of a run does not depend on its state
-told_number : (p : Progress) (s : State) → progress_number (progressed p s) ≡ progress_number (run_of p)
-told_number Running s = refl
-told_number (Ended (Returned v)) s = refl
-told_number (Ended (Raised v)) s = refl
-told_number (Ended Exhausted) s = refl
+told_number : (p : Result (Unit {0}) Ending) (s : State) → progress_number (progressed p s) ≡ progress_number (run_of p)
+told_number (Ok d) s = refl
+told_number (Err (Returned v)) s = refl
+told_number (Err (Raised v)) s = refl
+told_number (Err Exhausted) s = refl
 
-told_value : (p : Progress) (s : State) → progress_value (progressed p s) ≡ progress_value (run_of p)
-told_value Running s = refl
-told_value (Ended (Returned v)) s = refl
-told_value (Ended (Raised v)) s = refl
-told_value (Ended Exhausted) s = refl
+told_value : (p : Result (Unit {0}) Ending) (s : State) → progress_value (progressed p s) ≡ progress_value (run_of p)
+told_value (Ok d) s = refl
+told_value (Err (Returned v)) s = refl
+told_value (Err (Raised v)) s = refl
+told_value (Err Exhausted) s = refl
 
 -- a go that can be made: its answer tells what it came to
 module _ (x : Stand State) (t : List Record) (r : Run State) (z : ℤ) (n : ℕ) (loaded : x.table ≡ Some t) (started : x.run ≡ Some r) (asked : Asked z (Some n)) where
@@ -85,28 +88,23 @@ module _ (x : Stand State) (t : List Record) (r : Run State) (z : ℤ) (n : ℕ)
       (subst (λ v. DirectCalls x (go (pos n)) (went (progress_number (progressed g.progress s)) v g.beats k) y) (told_value g.progress s)
       (goes t r n loaded started asked.1 gone)))
 
--- what a stand keeps
-module _ (o : Option Program) (q : Option Progress) (s : State) (kept : ∥ Keeps o q s ∥₁) where
-  pub keeps_table : (r : Progress) → o ≡ None → q ≡ Some r → ⊥
-  keeps_table r eo eq = ∥∥₁_elim kept no_prop (λ w. subst (λ v. Keeps None v s) eq (subst (λ v. Keeps v q s) eo w))
+-- a run that went on is one that the rules reach
+pub went_kept : (p : Program) (n : ℕ) (s s' : State) (b b' : Standing) (g : Gone) → Reachable (records_in p) s → Went (records_in p) n s b g s' b' → ReachableRun (records_in p) (progressed g.progress s')
+went_kept p n s s' b b' g here w = goes_good direct_begin DirectBeat ReachableRun begins_reached stays_reached (records_in p) (formed p) n g.beats w.steps (running s) (progressed g.progress s') b b' here w.goes
 
-  pub keeps_some : (r : Progress) → q ≡ Some r → (p : Program) × (o ≡ Some p)
-  keeps_some r eq = by o refl
-    where
-      by : (v : Option Program) → o ≡ v → (p : Program) × (o ≡ Some p)
-      by None eo = absurd (keeps_table r eo eq)
-      by (Some p) eo = (p, eo)
+-- a go of too many beats, or of too few
+pub by_too_far : (x : Stand State) (r : Run State) (z : ℤ) (o : Option ℕ) (p : Result Gone GoRefusal) → x.run ≡ Some r → o ≡ None → Asked z o → p ≡ Err BeatCount → DirectCalls x (go z) (go_answer p 0) x
+by_too_far x r z o p started eo asked ep = subst (λ q. DirectCalls x (go z) (go_answer q 0) x) (sym ep) (go_too_far r started (subst (Asked z) eo asked))
 
-  pub keeps_reached : (p : Program) → o ≡ Some p → q ≡ Some Running → Reachable (records_in p) s
-  keeps_reached p eo eq = known_reachable (records_in p) s (∥∥₁_map kept (λ w. subst (λ v. Keeps (Some p) v s) eq (subst (λ v. Keeps v q s) eo w)))
-
--- a run that went on is kept
-pub went_kept : (p : Program) (n : ℕ) (s s' : State) (b b' : Standing) (g : Gone) → Reachable (records_in p) s → Went (records_in p) n s b g s' b' → Keeps (Some p) (Some g.progress) s'
-went_kept p n s s' b b' g here w = by g.progress refl
+-- what is kept of a run can be had, since it can hold in one way only
+pub kept_run : (p : Program) (q : Option Started) (r : Started) → ∥ Keeps p q ∥₁ → q ≡ Some r → ReachableRun (records_in p) (run_at r)
+kept_run p q r kept e = by r.progress refl
   where
-    by : (q : Progress) → g.progress ≡ q → Keeps (Some p) (Some q) s'
-    by Running e = goes_good direct_begin DirectBeat ReachableRun begins_reached stays_reached (records_in p) (formed p) n g.beats w.steps (running s) (running s') b b' here (subst (λ v. DirectGoes (records_in p) n (running s) b g.beats w.steps (progressed v s') b') e w.goes)
-    by (Ended e) eq = tt
+    by : (o : Result (Unit {0}) Ending) → r.progress ≡ o → ReachableRun (records_in p) (run_at r)
+    by (Ok d) eo =
+        let known = ∥∥₁_map kept (λ w. subst (λ v. ReachableRun (records_in p) (progressed v (state_of r.machine))) eo (subst (Keeps p) e w)) in
+        subst (λ v. ReachableRun (records_in p) (progressed v (state_of r.machine))) (sym eo) (known_reachable (records_in p) (state_of r.machine) known)
+    by (Err x) eo = subst (λ v. ReachableRun (records_in p) (progressed v (state_of r.machine))) (sym eo) tt
 
 -- a request that the bench answers as its contract says
 pub by_jog : (x : Stand State) (op y : ℤ) (a : Reply) (b : Standing) → a ≡ (respond x.bench op y).0 → b ≡ (respond x.bench op y).1 → DirectCalls x (jog op y) (replied a) (record { table = x.table; run = x.run; bench = b })

@@ -1,5 +1,5 @@
 -- Beats one after another: whatever goes on from where they lead goes on from where they began.
-use Rattle.std.proofs.Common.{◌≡◌, ℕ, suc, ◌+◌, ◌-◌, ◌<◌, List, refl, subst, arith}
+use Rattle.std.proofs.Common.{◌≡◌, ℕ, suc, ◌+◌, ◌-◌, ◌<◌, List, Ok, Err, refl, subst, arith}
 use Rattle.bench.specs.declared.state.State.{State as Standing}
 use Rattle.direct.specs.Going.{Went}
 use Rattle.language.proofs.NextBeat.{beat_on}
@@ -10,7 +10,6 @@ use Rattle.language.specs.Reachable.{Reachable}
 use Rattle.language.specs.Runs.{State, Run, running, ended}
 use Rattle.language.specs.WellFormed.{WellFormed}
 use Rattle.language.specs.declared.ending.Ending.{Ending}
-use Rattle.language.specs.declared.progress.Progress.TheVariants.{Running, Ended}
 use Rattle.language.specs.declared.record.Record.{Record}
 
 -- i beats lead from the state s and the bench b to the state s' and the bench b'
@@ -35,12 +34,12 @@ module _ (t : List Record) (s : State) (b : Standing) where
           (d.0, renumbered t (i + suc n) (i + suc m) (i + 1 + n) (i + 1 + m) d.0 (running s) r b c (omega arith) (omega arith) d.1);
     }
 
-    pub ends : (n : ℕ) (e : Ending) (s'' : State) (b'' : Standing) → i < n → Beat t s' b' (ended e) b'' → Went t n s b (record { progress = Ended e; beats = i + 1 }) s'' b''
+    pub ends : (n : ℕ) (e : Ending) (s'' : State) (b'' : Standing) → i < n → Beat t s' b' (ended e) b'' → Went t n s b (record { progress = Err e; beats = i + 1 }) s'' b''
     ends n e s'' b'' less β =
         let d = so_far.further (suc (n - i - 1)) 1 _ (ended e) b'' (more (β, refl) over) in
         record { steps = d.0; goes = renumbered t (i + suc (n - i - 1)) (i + 1) n (i + 1) d.0 (running s) (ended e) b b'' (omega arith) refl d.1 }
 
-    pub suffices : (n : ℕ) → i ≡ n → Went t n s b (record { progress = Running; beats = n }) s' b'
+    pub suffices : (n : ℕ) → i ≡ n → Went t n s b (record { progress = Ok tt; beats = n }) s' b'
     suffices n e =
         let d = so_far.further 0 0 0 (running s') b' enough in
         record { steps = d.0; goes = renumbered t (i + 0) (i + 0) n n d.0 (running s) (running s') b b' (omega arith) (omega arith) d.1 }

@@ -23,12 +23,6 @@ block_below t r l j e =
     let f = place_in (heads_block r l) (lines t) j e in
     omega (arith, nth_below (lines t) j f.0 f.1, length-lines t 0 0 None)
 
--- the target made of what is found
-pub block_leads : (t : List Record) (r l j : ℕ) (x : Record) (h : Option Handler) (k : Target) → block_place t r l ≡ Some j → slice_get t j ≡ Some x → h ≡ own_handler_of x → k ≡ record { at = j + 1; handler = h } → Leads t r l k
-block_leads t r l j x h k e at own is = record {
-  at = λ i g d. let f = d.first in let s : j ≡ i = cc in ap (λ (v : Target). v.at) is ∙ add-one j ∙ ap suc s;
-  under = λ i g d. let f = d.first in let th = d.there in let s : j ≡ i = cc in let u : own_handler_of x ≡ g = by i g s th in ap (λ (v : Target). v.handler) is ∙ own ∙ u;
-}
-  where
-    by : (i : ℕ) (g : Option Handler) → j ≡ i → slice_get t i ≡ Some (Rattle.language.specs.declared.record.Record.TheVariants.Block l g) → own_handler_of x ≡ g
-    by i g s th = cc
+-- two targets are the same by their parts
+pub opening : {i j : ℕ} {h g : Option Handler} → i ≡ j → h ≡ g → ◌≡◌ {A = Target} (record { at = i; handler = h }) (record { at = j; handler = g })
+opening e d k = record { at = e k; handler = d k }

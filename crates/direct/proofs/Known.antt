@@ -67,6 +67,7 @@ module _ (t : List Record) where
 
   pub known_linked : (ks : List Link) → ∥ Linked t ks ∥₁ → Linked t ks
   known_linked ks w = record {
+    long = known_number (∥∥₁_map w (λ v. v.long));
     names = λ i r n h x e. known_names r x (get_or ks i (no_link t)) (∥∥₁_map w (λ v. v.names i r n h x e));
     handlers = λ i r n h x e. known_handles r h (get_or ks i (no_link t)).handler (∥∥₁_map w (λ v. v.handlers i r n h x e));
   }

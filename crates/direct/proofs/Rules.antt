@@ -1,5 +1,5 @@
 -- The rules of a beat, from what the machine's moves leave.
-use Rattle.std.proofs.Common.{◌≡◌, ℕ, suc, ◌<◌, true, false, List, [], map, length, take, set, ℤ, pos, Some, None, Ok, Err, Option, sym, ap, ◌∙◌, subst, arith}
+use Rattle.std.proofs.Common.{◌≡◌, ℕ, suc, ◌<◌, true, false, List, [], ◌∷◌, map, length, take, set, ℤ, pos, Some, None, Ok, Err, Option, Result, sym, refl, ap, ◌∙◌, subst, arith}
 use lib.Signed.{le_z}
 use Rattle.bench.proofs.Rules.{respond_responds}
 use Rattle.bench.specs.Numbers.{fault_number}
@@ -8,7 +8,7 @@ use Rattle.bench.specs.Responds.{Answer, Responds}
 use Rattle.bench.specs.declared.fault.Fault.{Fault}
 use Rattle.bench.specs.declared.state.State.{State as Standing}
 use Rattle.direct.specs.Links.{Leads}
-use Rattle.direct.specs.Machines.{entered, Called, Resumed}
+use Rattle.direct.specs.Machines.{entered, Called}
 use Rattle.direct.specs.Programs.{LinkAt}
 use Rattle.direct.specs.declared.link.Link.{Link}
 use Rattle.direct.specs.declared.link.Target.{Target}
@@ -16,15 +16,18 @@ use Rattle.language.proofs.Flow.{handled}
 use Rattle.language.proofs.Frames.{catches}
 use Rattle.language.proofs.Lines.{line_record}
 use Rattle.language.proofs.Lists.{nth_below}
-use Rattle.language.specs.Beats.{Raises, own, frames, nobody, Beat, constant, move, subtract, request, fault, call, exhaust, goto, return, finish, branch, branch_not}
+use Rattle.language.specs.Beats.{Raises, own, frames, nobody, Beat, raise, constant, move, subtract, request, fault, call, exhaust, goto, return, finish, branch, branch_not}
 use Rattle.language.specs.Lines.{line, lines, Heads}
 use Rattle.language.specs.Reachable.{Resumes, Reachable}
-use Rattle.language.specs.Runs.{State, Run, running, ended, value, difference, onward, into, called_into, returned_to, Catcher, catcher}
+use Rattle.few.specs.declared.full.Full.{Full}
+use Rattle.language.specs.Runs.{Frame as Saved, State, Run, running, ended, value, difference, onward, into, called_into, returned_to, Catcher, catcher}
 use Rattle.language.specs.WellFormed.{WellFormed}
+use Rattle.language.specs.Progress.{progressed}
+use Rattle.language.specs.declared.ending.Ending.{Ending}
 use Rattle.language.specs.declared.ending.Ending.TheVariants.{Returned, Raised, Exhausted}
 use Rattle.language.specs.declared.handler.Handler.{Handler}
 use Rattle.language.specs.declared.instruction.Instruction.{Instruction}
-use Rattle.language.specs.declared.instruction.Instruction.TheVariants.{Constant, Move, Difference, Request, Call, Goto, Return, Branch}
+use Rattle.language.specs.declared.instruction.Instruction.TheVariants.{Constant, Move, Difference, Request, Call, Goto, Return, Branch, Raise}
 use Rattle.language.specs.declared.record.Record.{Record}
 use Rattle.language.specs.declared.record.Record.TheVariants.{Body}
 use Rattle.std.specs.List.{slice_get}
@@ -74,7 +77,7 @@ module _ (t : List Record) (ok : WellFormed t) (s : State) (here : Reachable t s
         let leads = (links.names s.routine here.stands.size s.handler (Body (Branch x y l m)) at).1 in
         subst (λ s'. Beat t s b (running s') b) (target_into t s s.variables m f.at f.handler k.otherwise f.here leads ∙ sym is) (branch_not f.at e c f.here)
 
-    pub by_call : (x g n : ℕ) (ys : List ℕ) (k : Link) (s' : State) → slice_get t s.at ≡ Some (Body (Call x g n ys)) → LinkAt t s.at k → Called s x g k.goes.at (take n ys) true s' → Beat t s b (running s') b
+    by_call : (x g n : ℕ) (ys : List ℕ) (k : Link) (s' : State) → slice_get t s.at ≡ Some (Body (Call x g n ys)) → LinkAt t s.at k → Called s x g k.goes.at (take n ys) (Ok tt) s' → Beat t s b (running s') b
     by_call x g n ys k s' e links (room, is) =
         let at = line_at (Call x g n ys) e in
         let f = (ok.named.calls s.at s.routine here.stands.size s.handler (Body (Call x g n ys)) at).0 in
@@ -83,8 +86,14 @@ module _ (t : List Record) (ok : WellFormed t) (s : State) (here : Reachable t s
         let there : called_into s x g f.at vs ≡ s' = ap (λ i. record { routine = g; handler = None; at = i; variables = (called_into s x g f.at vs).variables; frames = (called_into s x g f.at vs).frames }) (sym (enters.at f.at n f.locals f.here)) ∙ sym is in
         subst (λ v. Beat t s b (running v) b) there (call f.at e room f.here)
 
-    pub by_exhaust : (x g n i : ℕ) (ys zs : List ℕ) (s' : State) → slice_get t s.at ≡ Some (Body (Call x g n ys)) → Called s x g i zs false s' → Beat t s b (ended Exhausted) b
-    by_exhaust x g n i ys zs s' e (full, is) = exhaust e (omega (arith, full))
+    by_exhaust : (x g n i : ℕ) (ys zs : List ℕ) (full : Full) (s' : State) → slice_get t s.at ≡ Some (Body (Call x g n ys)) → Called s x g i zs (Err full) s' → Beat t s b (ended Exhausted) b
+    by_exhaust x g n i ys zs full s' e (all, is) = exhaust e (omega (arith, all))
+
+    -- a call that is made, or that finds no frame free
+    pub by_called : (x g n : ℕ) (ys : List ℕ) (k : Link) (r : Result (Unit {0}) Full) (p : Result (Unit {0}) Ending) (s' : State) → slice_get t s.at ≡ Some (Body (Call x g n ys)) → LinkAt t s.at k →
+        ((d : Unit {0}) → r ≡ Ok d → p ≡ Ok d) → ((f : Full) → r ≡ Err f → p ≡ Err Exhausted) → Called s x g k.goes.at (take n ys) r s' → Beat t s b (progressed p s') b
+    by_called x g n ys k (Ok d) p s' e links made none c = subst (λ q. Beat t s b (progressed q s') b) (sym (made d refl)) (by_call x g n ys k s' e links c)
+    by_called x g n ys k (Err f) p s' e links made none c = subst (λ q. Beat t s b (progressed q s') b) (sym (none f refl)) (by_exhaust x g n k.goes.at ys (take n ys) f s' e c)
 
   -- the handler of the block takes what is raised
   pub by_own : (v : ℤ) (h : Handler) (k : Link) (vs : List ℤ) (s' : State) → s.handler ≡ Some h → LinkAt t s.at k → vs ≡ set s.variables h.catch v →
@@ -124,8 +133,12 @@ module _ (t : List Record) (ok : WellFormed t) (s : State) (here : Reachable t s
       subst (λ w. Raises t s v (running w)) (there ∙ vars ∙ sym is) (frames f.at eh ec f.here)
 
 -- nobody takes it
-pub by_nobody : (t : List Record) (s : State) (v w : ℤ) → s.handler ≡ None → catcher s.frames ≡ None → w ≡ v → Raises t s v (ended (Raised w))
-by_nobody t s v w eh ec e = subst (λ u. Raises t s v (ended (Raised u))) (sym e) (nobody eh ec)
+pub by_nobody : (t : List Record) (s s' : State) (v w : ℤ) (p : Result (Unit {0}) Ending) → s.handler ≡ None → catcher s.frames ≡ None → p ≡ Err (Raised w) → w ≡ v → Raises t s v (progressed p s')
+by_nobody t s s' v w p eh ec ep e = subst (λ q. Raises t s v (progressed q s')) (sym ep) (subst (λ u. Raises t s v (ended (Raised u))) (sym e) (nobody eh ec))
+
+-- a raise, whatever comes of it
+pub by_raise : (t : List Record) (s s' : State) (b : Standing) (p q : Result (Unit {0}) Ending) → q ≡ p → (x : ℕ) (v : ℤ) → v ≡ value s.variables x → slice_get t s.at ≡ Some (Body (Raise x)) → Raises t s v (progressed q s') → Beat t s b (progressed p s') b
+by_raise t s s' b p q same x v ev e r = subst (λ r. Beat t s b (progressed r s') b) same (raise e (subst (λ w. Raises t s w (progressed q s')) ev r))
 
 -- a variable is set, and the run goes on
 module _ (t : List Record) (s s' : State) (b : Standing) (x : ℕ) (v : ℤ) (is : s' ≡ onward s (set s.variables x v)) where
@@ -140,11 +153,11 @@ module _ (t : List Record) (s s' : State) (b : Standing) (x : ℕ) (v : ℤ) (is
 
 -- a return, whatever the table
 module _ (t : List Record) (s s' : State) (b : Standing) (x : ℕ) (v : ℤ) (ev : v ≡ value s.variables x) (e : slice_get t s.at ≡ Some (Body (Return x))) where
-  pub by_return : Resumed s v true s' → Beat t s b (running s') b
-  by_return (f, fs, at, is) = subst (λ u. Beat t s b (running u) b) (ap (returned_to f fs) (sym ev) ∙ sym is) (return e at)
+  pub by_return : (f : Saved) (fs : List Saved) → s.frames ≡ f ∷ fs → s' ≡ returned_to f fs v → Beat t s b (running s') b
+  by_return f fs at is = subst (λ u. Beat t s b (running u) b) (ap (returned_to f fs) (sym ev) ∙ sym is) (return e at)
 
-  pub by_finish : Resumed s v false s' → Beat t s b (ended (Returned v)) b
-  by_finish (none, is) = subst (λ u. Beat t s b (ended (Returned u)) b) (sym ev) (finish e none)
+  pub by_finish : (p : Result (Unit {0}) Ending) → s.frames ≡ [] → p ≡ Err (Returned v) → Beat t s b (progressed p s') b
+  by_finish p none ep = subst (λ q. Beat t s b (progressed q s') b) (sym ep) (subst (λ u. Beat t s b (ended (Returned u)) b) (sym ev) (finish e none))
 
 -- the bench's answer, as its contract tells it
 module _ (t : List Record) (s : State) (b b' : Standing) (x op y : ℕ) (e : slice_get t s.at ≡ Some (Body (Request x op y))) (a : Answer) (o n : ℤ)

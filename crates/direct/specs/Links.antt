@@ -1,5 +1,5 @@
 -- What the names in a table's records stand for, looked up beforehand.
-use Rattle.std.specs.Prelude.{◌≡◌, ℕ, suc, List, Some, None, Option, slice_index_or}
+use Rattle.std.specs.Prelude.{◌≡◌, ℕ, suc, ◌<◌, List, length, Some, None, Option, slice_index_or}
 use Rattle.std.specs.List.{slice_get}
 use Rattle.language.specs.Lines.{line, lines, Heads, Enters}
 use Rattle.language.specs.declared.handler.Handler.{Handler}
@@ -16,6 +16,14 @@ own_handler_of (Block l h) = h
 own_handler_of (Body i) = None
 
 module _ (t : List Record) where
+  -- a heading that was found stands in the table
+  abbrev pub Within : Option ℕ → Type 0
+  Within f = (j : ℕ) → f ≡ Some j → j < length t
+
+  -- the target is the record after a heading that was found, under the handler that the heading has
+  abbrev pub Opens : Option ℕ → Target → Type 0
+  Opens f k = (j : ℕ) (x : Record) → f ≡ Some j → slice_get t j ≡ Some x → k ≡ record { at = suc j; handler = own_handler_of x }
+
   -- the target is the first instruction of the block l of routine r, under that block's handler
   pub record Leads (r l : ℕ) (k : Target) : Type 0 where
     pub at : (j : ℕ) (h : Option Handler) → Heads t r l j h → k.at ≡ suc j
@@ -49,5 +57,6 @@ module _ (t : List Record) where
 
   -- each record has its link, at its place
   pub record Linked (ks : List Link) : Type 0 where
+    pub long : length ks ≡ length t
     pub names : (i r n : ℕ) (h : Option Handler) (x : Record) → slice_get (lines t) i ≡ Some (line r n h x) → LinkedBy r x (slice_index_or ks i no_link)
     pub handlers : (i r n : ℕ) (h : Option Handler) (x : Record) → slice_get (lines t) i ≡ Some (line r n h x) → HandledBy r h (slice_index_or ks i no_link).handler

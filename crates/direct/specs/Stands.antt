@@ -1,32 +1,40 @@
 -- What a stand of the code stands for in the rules, and the answers of its calls.
 use Rattle.std.specs.Prelude.{ℕ, List, Some, None, Ok, Err, Option, Result}
 use Rattle.bench.specs.declared.state.State.{State as Standing}
-use Rattle.direct.specs.Machines.{state_of}
+use Rattle.direct.specs.Keeping.{run_at}
 use Rattle.direct.specs.Programs.{records_in}
 use Rattle.direct.specs.declared.gone.Gone.{Gone}
-use Rattle.direct.specs.declared.program.Program.{Program}
+use Rattle.direct.specs.declared.loaded.Loaded.{Loaded}
+use Rattle.direct.specs.declared.run.Run.{Run as Started}
 use Rattle.direct.specs.declared.stand.Stand.{Stand as Held}
 use Rattle.language.specs.Calls.{Answer, done, load_refused, start_refused, go_refused, went, Stand, progress_number, progress_value}
-use Rattle.language.specs.Progress.{progressed, run_of}
+use Rattle.language.specs.Progress.{run_of}
 use Rattle.language.specs.Runs.{State, Run}
-use Rattle.language.specs.declared.progress.Progress.{Progress}
 use Rattle.language.specs.declared.record.Record.{Record}
 use Rattle.language.specs.declared.refusal.GoRefusal.{GoRefusal}
 use Rattle.language.specs.declared.refusal.StartRefusal.{StartRefusal}
 use Rattle.table.specs.Faults.{fault_layer, fault_cause, fault_place}
 use Rattle.table.specs.declared.fault.TableFault.{TableFault}
 
-abbrev pub table_in : Option Program → Option (List Record)
+abbrev pub table_in : Option Loaded → Option (List Record)
 table_in None = None
-table_in (Some p) = Some (records_in p)
+table_in (Some l) = Some (records_in l.program)
 
-abbrev pub run_in : Option Progress → State → Option (Run State)
-run_in None s = None
-run_in (Some p) s = Some (progressed p s)
+abbrev pub started : Option Started → Option (Run State)
+started None = None
+started (Some r) = Some (run_at r)
+
+abbrev pub run_in : Option Loaded → Option (Run State)
+run_in None = None
+run_in (Some l) = started l.run
+
+-- the stand of the rules that holds what is loaded, on a bench
+abbrev pub stand_with : Option Loaded → Standing → Stand State
+stand_with l b = record { table = table_in l; run = run_in l; bench = b }
 
 -- the stand of the rules; state tells what a bench stands for
 abbrev pub stand_of : {B : Type 0} → (B → Standing) → Held B → Stand State
-stand_of state x = record { table = table_in x.program; run = run_in x.run (state_of x.machine); bench = state x.bench }
+stand_of state x = stand_with x.loaded (state x.bench)
 
 abbrev pub load_answer : Result (Unit {0}) TableFault → Answer
 load_answer (Ok d) = done

@@ -1,9 +1,9 @@
-use super::variables::Variables;
 use language::Handler;
+use variables::Variables;
 
 /// What a call saves: the routine that calls, the handler of its block, the place of the record after
 /// the call, its variables, and the variable that is to have the result.
-#[derive(Clone, Copy)]
+#[derive(Clone, Copy, PartialEq, Eq, Debug)]
 pub struct Frame {
     pub routine: u8,
     pub handler: Option<Handler>,

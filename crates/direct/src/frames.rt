@@ -1,18 +1,21 @@
-ghost use Rattle.std.specs.Prelude.{◌≡◌, ◌≤◌, length};
-ghost use Rattle.language.specs.Runs.{frame_count};
+ghost use Rattle.direct.specs.Frames.{Caught};
+ghost use Rattle.direct.specs.Views.{standing};
 
 use super::frame::Frame;
+use few::Few;
+use language::Handler;
 
-mod standing;
+/// The frames that stand, at most 32, the oldest first.
+pub type Frames = Few<Frame, 32>;
 
-/// The most frames that may stand.
-pub const MOST_FRAMES: usize = 32;
-
-/// The frames that stand, in a table of 32.
-#[derive(Drop)]
-pub struct Frames {
-    slots: [Frame; 32],
-    count: usize,
-    ghost long: { length slots ≡ frame_count },
-    ghost few: { count ≤ frame_count },
+/// Gives frames up, the newest first, down to one whose block has a handler, that one too.
+pub fn catch(frames: &mut Frames) -> Option<(Frame, Handler)>
+    ensures { Caught (standing frames.old) result (standing frames.new) }
+{
+    while let Some(frame) = frames.pop() {
+        if let Some(handler) = frame.handler {
+            return Some((frame, handler));
+        }
+    }
+    None
 }

@@ -7,10 +7,11 @@ mod frames;
 pub mod gone;
 mod link;
 mod linking;
+mod loaded;
 mod machine;
 mod program;
+mod run;
 pub mod stand;
-mod variables;
 
 pub use gone::Gone;
 pub use stand::Stand;

@@ -1,7 +1,7 @@
 use language::Handler;
 
 /// Where a jump leads: the place of the first instruction there, and the handler that it is under.
-#[derive(Clone, Copy)]
+#[derive(Clone, Copy, PartialEq, Eq, Debug)]
 pub struct Target {
     pub at: u16,
     pub handler: Option<Handler>,
@@ -16,7 +16,7 @@ impl Target {
 }
 
 /// What the names in a record stand for.
-#[derive(Clone, Copy)]
+#[derive(Clone, Copy, PartialEq, Eq, Debug)]
 pub struct Link {
     /// Where a goto, a branch that holds, and a call lead.
     pub goes: Target,

@@ -2,23 +2,25 @@
 
 ghost use Rattle.std.specs.Prelude.{◌≡◌, ◌<◌, length, Some};
 ghost use Rattle.std.specs.List.{slice_get};
-ghost use Rattle.direct.specs.Links.{own_handler_of, Leads, EntersAt, LinkedBy, HandledBy, Linked};
+ghost use Rattle.direct.specs.Links.{own_handler_of, Within, Opens, Leads, EntersAt, LinkedBy, HandledBy, Linked};
+ghost use Rattle.few.specs.Held.{held};
 ghost use Rattle.table.specs.Checked.{records_of};
 
 use super::link::{Link, Target};
+use few::Few;
 use language::{Handler, Instruction, Record};
 use scopes::Scope;
 use table::Table;
 
 /// The links of a table's records.
-pub fn link_table(table: &Table) -> [Link; 256]
-    ensures { Linked (records_of table.now) result }
+pub fn link_table(table: &Table) -> Few<Link, 256>
+    ensures { Linked (records_of table.now) (held result) }
 {
-    let mut links = [Link::NONE; 256];
+    let mut links = Few::new(Link::NONE);
     let mut scope = Scope::nowhere();
-    for (place, next) in table.records().iter().enumerate() {
+    for next in table.records() {
         scope = scope.at(*next);
-        links[place] = link(table, scope, *next);
+        links.push(link(table, scope, *next)).unwrap();
     }
     links
 }
@@ -74,7 +76,22 @@ fn handler_target(table: &Table, scope: Scope) -> Target
 fn block_target(table: &Table, routine: u8, label: u8) -> Target
     ensures { Leads (records_of table.now) routine label result }
 {
-    match table.block(routine, label) {
+    target(table, table.block(routine, label))
+}
+
+/// Where a call of a routine leads.
+fn routine_target(table: &Table, identifier: u8) -> Target
+    ensures { EntersAt (records_of table.now) identifier result }
+{
+    target(table, table.routine(identifier))
+}
+
+/// The first instruction under a heading, which is under the handler that the heading has.
+fn target(table: &Table, heading: Option<usize>) -> Target
+    requires { Within (records_of table.now) heading }
+    ensures { Opens (records_of table.now) heading result }
+{
+    match heading {
         Some(place) => Target {
             at: place as u16 + 1,
             handler: own_handler(record_at(table, place)),
@@ -90,19 +107,6 @@ fn own_handler(heading: Record) -> Option<Handler>
     match heading {
         Record::Block { handler, .. } => handler,
         _ => None,
-    }
-}
-
-/// Where a call of a routine leads.
-fn routine_target(table: &Table, identifier: u8) -> Target
-    ensures { EntersAt (records_of table.now) identifier result }
-{
-    match table.routine(identifier) {
-        Some(place) => Target {
-            at: place as u16 + 1,
-            handler: None,
-        },
-        None => Target::NOWHERE,
     }
 }
 

@@ -1,6 +1,6 @@
 use super::frames::Frames;
-use super::variables::Variables;
 use language::Handler;
+use variables::Variables;
 
 mod beat;
 mod go;

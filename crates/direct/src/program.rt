@@ -1,8 +1,9 @@
-ghost use Rattle.std.specs.Prelude.{◌≡◌, length};
 ghost use Rattle.direct.specs.Links.{Linked};
+ghost use Rattle.few.specs.Held.{held};
 ghost use Rattle.table.specs.Checked.{records_of};
 
 use super::link::Link;
+use few::Few;
 use table::Table;
 
 mod reading;
@@ -11,7 +12,6 @@ mod reading;
 #[derive(Drop)]
 pub struct Program {
     pub table: Table,
-    links: [Link; 256],
-    ghost long: { length links ≡ 256 },
-    ghost linked: { ∥ Linked (records_of table) links ∥₁ },
+    links: Few<Link, 256>,
+    ghost linked: { ∥ Linked (records_of table) (held links) ∥₁ },
 }

@@ -44,12 +44,12 @@ impl Machine {
     {
         let mut progress = opened;
         for made in 0..MOST_STEPS {
-            if let Progress::Ended(ending) = progress {
-                return (Progress::Ended(ending), made);
+            if let Err(ending) = progress {
+                return (Err(ending), made);
             }
             let word = program.word(self.counter);
             if word.opens {
-                return (Progress::Running, made);
+                return (Ok(()), made);
             }
             progress = self.step(program, word, bench);
         }

@@ -5,8 +5,8 @@ ghost use Rattle.language.specs.Configurations.{rest_after_of, landing_after_of,
 ghost use Rattle.language.specs.Runs.{variable_count, value, with_arguments};
 
 use super::super::cell::{Cell, Landing};
-use super::super::cells::Cells;
 use super::Machine;
+use few::{Few, Full};
 use variables::Variables;
 
 /// The number of the register that is not one of the variables.
@@ -25,7 +25,7 @@ impl Machine {
             register: 0,
             continuation: None,
             handler: None,
-            cells: Cells::new(),
+            cells: Few::new(Cell::EMPTY),
         }
     }
 
@@ -64,28 +64,25 @@ impl Machine {
 
     /// Fills the next cell with what is to go on after a call, and goes on at the next word; or changes
     /// nothing, where no cell is free.
-    pub fn save(&mut self, res: u8, catch: Option<u8>) -> bool
+    pub fn save(&mut self, res: u8, catch: Option<u8>) -> Result<(), Full>
         requires { self.old.counter < 976 }
         ensures { Saved (configuration self.old) res catch result (configuration self.new) }
     {
-        let next = self.counter + 1;
-        let cell = Cell {
+        let next = Some(self.cells.len() as u8);
+        self.cells.push(Cell {
             result: res,
             rest: rest_after(catch, self.counter),
             landing: landing_after(catch, self.counter),
             variables: self.variables,
             continuation: self.continuation,
             handler: self.handler,
-        };
-        let Some(at) = self.cells.fill(cell) else {
-            return false;
-        };
-        self.counter = next;
-        self.continuation = Some(at);
-        if let Some(_) = catch {
-            self.handler = Some(at);
+        })?;
+        self.counter += 1;
+        self.continuation = next;
+        if catch.is_some() {
+            self.handler = next;
         }
-        true
+        Ok(())
     }
 
     /// Goes on at an address with the values of the first arguments, and the other variables 0.
@@ -129,9 +126,10 @@ fn rest_after(catch: Option<u8>, counter: u16) -> u16
     requires { counter < 976 }
     ensures { result ≡ rest_after_of catch counter }
 {
-    match catch {
-        Some(_) => counter + 3,
-        None => counter + 2,
+    if catch.is_some() {
+        counter + 3
+    } else {
+        counter + 2
     }
 }
 
@@ -140,11 +138,8 @@ fn landing_after(catch: Option<u8>, counter: u16) -> Option<Landing>
     requires { counter < 976 }
     ensures { landing_of result ≡ landing_after_of catch counter }
 {
-    match catch {
-        Some(catch) => Some(Landing {
-            catch,
-            address: counter + 2,
-        }),
-        None => None,
-    }
+    catch.map(|catch| Landing {
+        catch,
+        address: counter + 2,
+    })
 }

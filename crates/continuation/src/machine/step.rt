@@ -11,6 +11,7 @@ ghost use Rattle.language.specs.Runs.{running};
 ghost use Rattle.language.specs.Steps.{Fetches};
 ghost use Rattle.language.specs.declared.operation.Operation.TheVariants.{Ask as Asks, Save as Saves, Resume as Resumes, Test as Tests, Throw as Throws};
 
+use super::super::cells::release;
 use super::super::program::Program;
 use super::Machine;
 use bench::{Bench, Request};
@@ -24,52 +25,33 @@ impl Machine {
         ensures { CodeStep (records_in program.now) (configuration self.old) (B.Bench.state bench.old) (progressed result (configuration self.new)) (B.Bench.state bench.new) }
     {
         match word.operation {
-            Operation::Set { x, value } => {
-                self.assign(x, value);
-                Progress::Running
-            }
+            Operation::Set { x, value } => self.assign(x, value),
             Operation::Assign { x, y } => {
                 let value = self.variables.get(y);
-                self.assign(x, value);
-                Progress::Running
+                self.assign(x, value)
             }
             Operation::Subtract { x, y, z } => {
                 let value = self.variables.difference(y, z);
-                self.assign(x, value);
-                Progress::Running
+                self.assign(x, value)
             }
             Operation::Ask {
                 x,
                 operation,
                 y,
                 catch,
-            } => { self.ask(program, bench, x, operation, y, catch) }
-            Operation::Save { x, catch } => {
-                if self.save(x, catch) {
-                    Progress::Running
-                } else {
-                    Progress::Ended(Ending::Exhausted)
-                }
-            }
+            } => self.ask(program, bench, x, operation, y, catch),
+            Operation::Save { x, catch } => { self.save(x, catch).map_err(|_| Ending::Exhausted)? }
             Operation::Enter {
                 count,
                 address,
                 arguments,
-            } => {
-                self.enter(count, address, arguments);
-                Progress::Running
-            }
-            Operation::Jump { address } => {
-                self.counter = address;
-                Progress::Running
-            }
-            Operation::Resume { x } => self.resume(program, x),
-            Operation::Test { x, y } => {
-                self.test(x, y);
-                Progress::Running
-            }
-            Operation::Throw { x } => self.throw(program, x),
+            } => self.enter(count, address, arguments),
+            Operation::Jump { address } => self.counter = address,
+            Operation::Resume { x } => self.resume(program, x)?,
+            Operation::Test { x, y } => self.test(x, y),
+            Operation::Throw { x } => self.throw(program, x)?,
         }
+        Ok(())
     }
 
     /// Asks the bench. Its number goes to `x`, and the next word is passed over; a fault's number goes to
@@ -82,10 +64,10 @@ impl Machine {
         operation: u8,
         y: u8,
         catch: u8,
-    ) -> Progress
+    )
         requires here { Fetches (WordAt (code (records_in program.now))) (configuration self.old) (Asks x operation y catch) }
         requires going { ∥ Going (records_in program.now) (running (configuration self.old)) (B.Bench.state bench.old) ∥₁ }
-        ensures { CodeStep (records_in program.now) (configuration self.old) (B.Bench.state bench.old) (progressed result (configuration self.new)) (B.Bench.state bench.new) }
+        ensures { CodeStep (records_in program.now) (configuration self.old) (B.Bench.state bench.old) (running (configuration self.new)) (B.Bench.state bench.new) }
     {
         let number = self.variables.get(y);
         match bench.request(Request {
@@ -98,7 +80,6 @@ impl Machine {
             }
             Err(fault) => self.catch(catch, fault.number()),
         }
-        Progress::Running
     }
 
     /// Hands `x` to the continuation; at the outermost the run ends.
@@ -108,12 +89,10 @@ impl Machine {
         ensures { (b : Standing) → CodeStep (records_in program.now) (configuration self.old) b (progressed result (configuration self.new)) b }
     {
         let value = self.variables.get(x);
-        let Some(at) = self.continuation else {
-            return Progress::Ended(Ending::Returned(value));
-        };
-        let cell = self.cells.release(at);
+        let at = self.continuation.ok_or(Ending::Returned(value))?;
+        let cell = release(&mut self.cells, at);
         self.hand(cell, cell.result, cell.rest, value);
-        Progress::Running
+        Ok(())
     }
 
     /// Hands `x` to the handler; at the outermost the run ends.
@@ -123,16 +102,10 @@ impl Machine {
         ensures { (b : Standing) → CodeStep (records_in program.now) (configuration self.old) b (progressed result (configuration self.new)) b }
     {
         let value = self.content(x);
-        let Some(at) = self.handler else {
-            return Progress::Ended(Ending::Raised(value));
-        };
-        let cell = self.cells.release(at);
-        match cell.landing {
-            Some(landing) => {
-                self.hand(cell, landing.catch, landing.address, value);
-                Progress::Running
-            }
-            None => unreachable(),
-        }
+        let at = self.handler.ok_or(Ending::Raised(value))?;
+        let cell = release(&mut self.cells, at);
+        let landing = cell.landing.unwrap();
+        self.hand(cell, landing.catch, landing.address, value);
+        Ok(())
     }
 }

@@ -1,9 +1,8 @@
-ghost use Rattle.std.specs.Prelude.{◌≡◌, ◌<◌, ◌≤◌, length, take};
+ghost use Rattle.std.specs.Prelude.{◌≡◌, ◌<◌, length};
 ghost use Rattle.continuation.specs.Programs.{records_in};
 ghost use Rattle.language.specs.Code.{code};
 ghost use Rattle.language.specs.CodeWords.{WordAt};
 ghost use Rattle.language.specs.Translation.{translation};
-ghost use Rattle.table.specs.Checked.{records_of};
 ghost use Rattle.translation.specs.Addressing.{EntryAddress};
 
 use super::super::decoding::decode;
@@ -18,7 +17,7 @@ impl Program {
         ensures { result.table ≡ table }
     {
         let mut code = [0; 7808];
-        put_code(&table, &mut code);
+        translate_table(&table, &mut code).unwrap();
         let entry = entry_address(&table);
         Program { table, code, entry }
     }
@@ -36,20 +35,6 @@ impl Program {
         ensures { WordAt (code (records_in self.now)) at result }
     {
         let (words, _) = self.code.as_chunks::<8>();
-        match decode(words[usize::from(at)]) {
-            Some(word) => word,
-            None => unreachable(),
-        }
-    }
-}
-
-/// Writes the translation of a table to the front of a buffer that has room for any.
-fn put_code(table: &Table, out: &mut [u8])
-    requires { 7808 ≤ length out.old }
-    ensures { take (length (code (records_of table.now))) out.new ≡ code (records_of table.now) }
-{
-    match translate_table(table, out) {
-        Ok(_) => {}
-        Err(_) => unreachable(),
+        decode(words[usize::from(at)]).unwrap()
     }
 }

@@ -5,6 +5,7 @@ ghost use Rattle.direct.specs.Programs.{records_in, BranchesAt};
 ghost use Rattle.language.specs.Beats.{Beat};
 ghost use Rattle.language.specs.Progress.{progressed};
 ghost use Rattle.language.specs.Reachable.{Reachable};
+ghost use Rattle.language.specs.Runs.{running};
 ghost use Rattle.language.specs.declared.instruction.Instruction.TheVariants.{Request as Asks, Call as Calls, Return as Returns};
 ghost use Rattle.language.specs.declared.record.Record.{Record as Recorded};
 ghost use Rattle.language.specs.declared.record.Record.TheVariants.{Body};
@@ -22,40 +23,33 @@ impl Machine {
         ensures { Beat (records_in program.now) (state_of self.old) (B.Bench.state bench.old) (progressed result (state_of self.new)) (B.Bench.state bench.new) }
     {
         match program.instruction(self.at) {
-            Instruction::Constant { x, value } => {
-                self.assign(x, value);
-                Progress::Running
-            }
+            Instruction::Constant { x, value } => self.assign(x, value),
             Instruction::Move { x, y } => {
                 let value = self.variables.get(y);
-                self.assign(x, value);
-                Progress::Running
+                self.assign(x, value)
             }
             Instruction::Difference { x, y, z } => {
                 let value = self.variables.difference(y, z);
-                self.assign(x, value);
-                Progress::Running
+                self.assign(x, value)
             }
             Instruction::Request { x, operation, y } => {
-                self.request(program, bench, x, operation, y)
+                self.request(program, bench, x, operation, y)?
             }
             Instruction::Call {
                 x,
                 routine,
                 count,
                 arguments,
-            } => { self.call_routine(program, x, routine, count, arguments) }
-            Instruction::Goto { .. } => {
-                self.enter(program.link(self.at).goes);
-                Progress::Running
-            }
-            Instruction::Return { x } => self.give_back(x),
+            } => self.call_routine(program, x, routine, count, arguments)?,
+            Instruction::Goto { .. } => self.enter(program.link(self.at).goes),
+            Instruction::Return { x } => self.give_back(x)?,
             Instruction::Branch { x, y, .. } => self.branch(program, x, y),
             Instruction::Raise { x } => {
                 let value = self.variables.get(x);
-                self.raise(program, value)
+                self.raise(program, value)?
             }
         }
+        Ok(())
     }
 
     /// Asks the bench. Its number goes to `x`; a fault's number is raised.
@@ -78,7 +72,7 @@ impl Machine {
         }) {
             Ok(answer) => {
                 self.assign(x, answer);
-                Progress::Running
+                Ok(())
             }
             Err(fault) => self.raise(program, fault.number()),
         }
@@ -99,11 +93,8 @@ impl Machine {
     {
         let at = program.link(self.at).goes.at;
         let passed = &arguments[..usize::from(count)];
-        if self.call(x, routine, at, passed) {
-            Progress::Running
-        } else {
-            Progress::Ended(Ending::Exhausted)
-        }
+        self.call(x, routine, at, passed)
+            .map_err(|_| Ending::Exhausted)
     }
 
     /// Gives `x` back to the newest frame; or ends the run, where there is none.
@@ -111,18 +102,16 @@ impl Machine {
         ensures { (t : List Recorded) (b : Standing) → slice_get t self.old.at ≡ Some (Body (Returns x)) → Beat t (state_of self.old) b (progressed result (state_of self.new)) b }
     {
         let value = self.variables.get(x);
-        if self.resume(value) {
-            Progress::Running
-        } else {
-            Progress::Ended(Ending::Returned(value))
-        }
+        let frame = self.frames.pop().ok_or(Ending::Returned(value))?;
+        self.resume(frame, value);
+        Ok(())
     }
 
     /// Goes to one block if `x` is at most `y`, else to the other.
-    fn branch(&mut self, program: &Program, x: u8, y: u8) -> Progress
+    fn branch(&mut self, program: &Program, x: u8, y: u8)
         requires reached { Reachable (records_in program.now) (state_of self.old) }
         requires here { BranchesAt (records_in program.now) self.old.at x y }
-        ensures { (b : Standing) → Beat (records_in program.now) (state_of self.old) b (progressed result (state_of self.new)) b }
+        ensures { (b : Standing) → Beat (records_in program.now) (state_of self.old) b (running (state_of self.new)) b }
     {
         let link = program.link(self.at);
         if self.variables.get(x) <= self.variables.get(y) {
@@ -130,6 +119,5 @@ impl Machine {
         } else {
             self.enter(link.otherwise);
         }
-        Progress::Running
     }
 }

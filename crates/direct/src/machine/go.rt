@@ -7,7 +7,6 @@ use super::super::gone::Gone;
 use super::super::program::Program;
 use super::Machine;
 use bench::Bench;
-use language::Progress;
 
 impl Machine {
     /// So many beats, fewer only if the run ends.
@@ -16,15 +15,15 @@ impl Machine {
         ensures { Went (records_in program.now) count (state_of self.old) (B.Bench.state bench.old) result (state_of self.new) (B.Bench.state bench.new) }
     {
         for made in 0..count {
-            if let Progress::Ended(ending) = self.beat(program, bench) {
+            if let Err(ending) = self.beat(program, bench) {
                 return Gone {
-                    progress: Progress::Ended(ending),
+                    progress: Err(ending),
                     beats: made + 1,
                 };
             }
         }
         Gone {
-            progress: Progress::Running,
+            progress: Ok(()),
             beats: count,
         }
     }

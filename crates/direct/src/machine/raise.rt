@@ -4,6 +4,7 @@ ghost use Rattle.language.specs.Beats.{Raises};
 ghost use Rattle.language.specs.Progress.{progressed};
 ghost use Rattle.language.specs.Reachable.{Reachable};
 
+use super::super::frames::catch;
 use super::super::program::Program;
 use super::Machine;
 use language::{Ending, Progress};
@@ -18,16 +19,13 @@ impl Machine {
         if let Some(handler) = self.handler {
             self.variables.set(handler.catch, value);
             self.enter(program.link(self.at).handler);
-            return Progress::Running;
+            return Ok(());
         }
-        let Some(caught) = self.frames.catch() else {
-            return Progress::Ended(Ending::Raised(value));
-        };
-        let (frame, handler) = caught;
+        let (frame, handler) = catch(&mut self.frames).ok_or(Ending::Raised(value))?;
         self.routine = frame.routine;
         self.variables = frame.variables;
         self.variables.set(handler.catch, value);
         self.enter(program.link(frame.next - 1).handler);
-        Progress::Running
+        Ok(())
     }
 }

@@ -34,6 +34,6 @@ impl Program {
         requires { at < length (records_in self.now) }
         ensures { LinkAt (records_in self.now) at result }
     {
-        self.links[usize::from(at)]
+        self.links.as_slice()[usize::from(at)]
     }
 }

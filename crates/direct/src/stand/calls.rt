@@ -4,11 +4,10 @@ ghost use Rattle.language.specs.Calls.{load, start, go, jog, replied, fresh_stan
 ghost use Rattle.language.specs.Direct.{DirectCalls};
 
 use super::super::gone::Gone;
-use super::super::machine::Machine;
-use super::super::program::Program;
+use super::super::loaded::Loaded;
 use super::Stand;
 use bench::{Bench, Fault, Request};
-use language::{GoRefusal, Progress, StartRefusal, beats_asked};
+use language::{GoRefusal, StartRefusal};
 use table::{TableFault, check};
 
 impl<B: Bench> Stand<B> {
@@ -18,9 +17,7 @@ impl<B: Bench> Stand<B> {
     {
         Stand {
             bench,
-            program: None,
-            machine: Machine::begin(0, &[]),
-            run: None,
+            loaded: None,
         }
     }
 
@@ -29,54 +26,28 @@ impl<B: Bench> Stand<B> {
     pub fn load(&mut self, bytes: &[u8]) -> Result<(), TableFault>
         ensures { DirectCalls (stand_of B.Bench.state self.old) (load bytes.now) (load_answer result) (stand_of B.Bench.state self.new) }
     {
-        match check(bytes) {
-            Ok(table) => {
-                self.program = Some(Program::new(table));
-                self.run = None;
-                Ok(())
-            }
-            Err(fault) => Err(fault),
-        }
+        self.loaded = Some(Loaded::new(check(bytes)?));
+        Ok(())
     }
 
     /// Starts a run of routine 0 with these arguments, in place of the run that there is.
     pub fn start(&mut self, arguments: &[i32]) -> Result<(), StartRefusal>
         ensures { DirectCalls (stand_of B.Bench.state self.old) (start arguments.now) (start_answer result) (stand_of B.Bench.state self.new) }
     {
-        let Some(program) = &self.program else {
+        let Some(loaded) = &mut self.loaded else {
             return Err(StartRefusal::NoTable);
         };
-        let main = program.table.main();
-        if arguments.len() != usize::from(main.parameters) {
-            return Err(StartRefusal::ArgumentCount);
-        }
-        self.machine = Machine::begin(main.place as u16 + 1, arguments);
-        self.run = Some(Progress::Running);
-        Ok(())
+        loaded.start(arguments)
     }
 
     /// Makes so many beats, fewer only if the run ends. A run that has ended tells its ending again.
     pub fn go(&mut self, count: i32) -> Result<Gone, GoRefusal>
         ensures { (k : ℕ) × DirectCalls (stand_of B.Bench.state self.old) (go count) (go_answer result k) (stand_of B.Bench.state self.new) }
     {
-        let Some(progress) = self.run else {
+        let Some(loaded) = &mut self.loaded else {
             return Err(GoRefusal::NoRun);
         };
-        let Some(most) = beats_asked(count) else {
-            return Err(GoRefusal::BeatCount);
-        };
-        if let Progress::Ended(ending) = progress {
-            return Ok(Gone {
-                progress: Progress::Ended(ending),
-                beats: 0,
-            });
-        }
-        let Some(program) = &self.program else {
-            unreachable()
-        };
-        let gone = self.machine.go(program, &mut self.bench, most);
-        self.run = Some(gone.progress);
-        Ok(gone)
+        loaded.go(&mut self.bench, count)
     }
 
     /// Passes one request to the bench.

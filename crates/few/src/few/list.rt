@@ -1,4 +1,4 @@
-ghost use Rattle.std.specs.Prelude.{◌≡◌, [], length, take};
+ghost use Rattle.std.specs.Prelude.{◌≡◌, ◌≤◌, [], length, take};
 ghost use Rattle.few.specs.Held.{held, Pushed, Popped};
 
 use super::super::full::Full;
@@ -17,7 +17,8 @@ impl<T: Copy, const N: usize> Few<T, N> {
 
     /// How many values there are.
     pub fn len(&self) -> usize
-        ensures { result ≡ length (held self.now) }
+        ensures count { result ≡ length (held self.now) }
+        ensures few { result ≤ N }
     {
         self.as_slice().len()
     }

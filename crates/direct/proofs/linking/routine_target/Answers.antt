@@ -1,16 +1,11 @@
-use Rattle.std.proofs.Common.{◌<◌, sym, arith, rules}
-use Rattle.direct.proofs.Finding.{few_records, routine_below}
+use Rattle.std.proofs.Common.{ap, sym, ◌∙◌}
+use Rattle.direct.proofs.Finding.{routine_below}
 use Rattle.direct.proofs.linking.routine_target.Goals as goal
-use Rattle.direct.proofs.linking.routine_target.Goals.{In-Some}
+use Rattle.direct.specs.declared.link.Target.{Target}
 use Rattle.table.specs.Checked.{records_of}
 
-small : (c : In-Some) → c.in-Some.place < 256
-small c =
-    let m = c.args.table.now in
-    omega (arith, routine_below (records_of m) c.args.identifier c.in-Some.place (sym c.in-Some.ensures), few_records m)
+pub target-requires : goal.target-requires
+target-requires c j e = routine_below (records_of c.args.table.now) c.args.identifier j (sym c.routine.ensures ∙ e)
 
-pub overflow_cast-result : goal.overflow_cast-result
-overflow_cast-result c = let l = small c in search rules
-
-pub overflow_add-result : goal.overflow_add-result
-overflow_add-result c = let l = small c in search rules
+pub returns : goal.returns
+returns c = record { at = λ j p q d. ap (λ (v : Target). v.at) (c.target.ensures j _ (c.routine.ensures ∙ d.first) d.there) }

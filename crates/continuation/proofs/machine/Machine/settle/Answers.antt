@@ -1,4 +1,4 @@
-use Rattle.std.proofs.Common.{subst, arith}
+use Rattle.std.proofs.Common.{Result, subst, arith}
 use Rattle.continuation.proofs.Beating.{Settling, midway_on, none_made, one_more, closes, ends, few}
 use Rattle.continuation.proofs.Programs.{formed}
 use Rattle.continuation.proofs.Rules.{low}
@@ -10,7 +10,7 @@ use Rattle.continuation.specs.Programs.{records_in}
 use Rattle.language.specs.Configurations.{Configuration}
 use Rattle.language.specs.Progress.{progressed}
 use Rattle.language.specs.Runs.{Run, running, ended}
-use Rattle.language.specs.declared.progress.Progress.{Progress}
+use Rattle.language.specs.declared.ending.Ending.{Ending}
 
 -- what is made, where the run is at z
 abbrev Made : (g : Over) → In_default g → Run Configuration → Type 0
@@ -20,19 +20,19 @@ Made g c z =
 
 -- the run has not ended
 still : (g : Over) (c : In_default g) → Made g c (running (configuration c.loop-made.self))
-still g c = subst (λ (q : Progress). Made g c (progressed q (configuration c.loop-made.self))) c.in_default.is c.loop-made.invariant
+still g c = subst (λ (q : Result (Unit {0}) Ending). Made g c (progressed q (configuration c.loop-made.self))) c.in_default.is c.loop-made.invariant
 
 pub loop-made-init : goal.loop-made-init
 loop-made-init g c = let p = c.args.program.now in none_made (records_in p) (formed p) _ _ c.requires
 
-pub returns-in-Ended : goal.returns-in-Ended
-returns-in-Ended g c =
+pub returns-in-Err : goal.returns-in-Err
+returns-in-Err g c =
     let p = c.args.program.now in
     let r = progressed c.args.opened (configuration c.args.self.now) in
     let b = g.B.Bench.state c.args.bench.now in
     let d = g.B.Bench.state c.loop-made.bench in
-    let e = c.in-Ended.ending in
-    let made = subst (λ (q : Progress). Settling (records_in p) (formed p) r b c.loop-made.made (progressed q (configuration c.loop-made.self)) d) c.in-Ended.is c.loop-made.invariant in
+    let e = c.in-Err.ending in
+    let made = subst (λ (q : Result (Unit {0}) Ending). Settling (records_in p) (formed p) r b c.loop-made.made (progressed q (configuration c.loop-made.self)) d) c.in-Err.is c.loop-made.invariant in
     record { rest = ends (records_in p) (formed p) r b c.loop-made.made e d made; few = few (records_in p) (formed p) r b c.loop-made.made (ended e) d made }
 
 pub word-word-requires : goal.word-word-requires

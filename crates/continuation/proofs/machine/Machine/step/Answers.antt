@@ -1,7 +1,7 @@
-use Rattle.std.proofs.Common.{refl, w32, to_z, of_z, rules}
+use Rattle.std.proofs.Common.{Ok, refl, w32, to_z, of_z, rules}
 use mathlib.Core.Logic.{∥∥₁_map}
 use Rattle.continuation.proofs.Programs.{formed}
-use Rattle.continuation.proofs.Rules.{fetched, few, few_passed, by_set, by_assign, by_subtract, by_save, by_exhaust, by_enter, by_jump, by_test}
+use Rattle.continuation.proofs.Rules.{fetched, few, few_passed, by_set, by_assign, by_subtract, by_save, by_enter, by_jump, by_test}
 use Rattle.continuation.proofs.machine.Machine.step.Goals as goal
 use Rattle.continuation.specs.Machines.{configuration}
 use Rattle.continuation.specs.Programs.{records_in}
@@ -57,17 +57,17 @@ returns-in-Subtract g c =
     let s = configuration c.args.self.now in
     by_subtract (records_in p) (formed p) s _ _ c.in-Subtract.x c.in-Subtract.y c.in-Subtract.z (to_z w32 (of_z w32 c.difference-value.result)) (fetched (records_in p) (formed p) s c.args.word _ c.requires.here c.in-Subtract.is) (search rules) c.assign-in-Subtract.ensures
 
-pub returns-then-save : goal.returns-then-save
-returns-then-save g c =
+pub returns-in_ok-map_err-in-Save : goal.returns-in_ok-map_err-in-Save
+returns-in_ok-map_err-in-Save g c =
     let p = c.args.program.now in
     let s = configuration c.args.self.now in
-    by_save (records_in p) (formed p) s _ _ c.in-Save.x c.in-Save.catch (fetched (records_in p) (formed p) s c.args.word _ c.requires.here c.in-Save.is) c.if-save.ensures
+    by_save (records_in p) (formed p) s _ _ c.in-Save.x c.in-Save.catch c.save.result (Ok tt) (fetched (records_in p) (formed p) s c.args.word _ c.requires.here c.in-Save.is) (λ d e. search rules) (λ f e. search rules) c.save.ensures
 
-pub returns-else-save : goal.returns-else-save
-returns-else-save g c =
+pub returns-in_err-map_err-in-Save : goal.returns-in_err-map_err-in-Save
+returns-in_err-map_err-in-Save g c =
     let p = c.args.program.now in
     let s = configuration c.args.self.now in
-    by_exhaust (records_in p) (formed p) s _ _ c.in-Save.x c.in-Save.catch (fetched (records_in p) (formed p) s c.args.word _ c.requires.here c.in-Save.is) c.if-save.ensures
+    by_save (records_in p) (formed p) s _ _ c.in-Save.x c.in-Save.catch c.save.result c.from_residual.result (fetched (records_in p) (formed p) s c.args.word _ c.requires.here c.in-Save.is) (λ d e. search rules) (λ f e. search rules) c.save.ensures
 
 pub returns-in-Enter : goal.returns-in-Enter
 returns-in-Enter g c =

@@ -1,4 +1,4 @@
-use Rattle.std.proofs.Common.{◌≡◌, ℕ, ◌/◌, ◌<◌, List, [], length, get_or, Some, None, ap, ◌∙◌, subst, arith}
+use Rattle.std.proofs.Common.{◌≡◌, ℕ, ◌/◌, ◌<◌, List, [], length, get_or, Some, None, Option, refl, ap, ◌∙◌, subst, arith}
 use Rattle.continuation.proofs.Coding.{word_read, word_there}
 use Rattle.continuation.proofs.Programs.{formed}
 use Rattle.continuation.proofs.program.Program.word.Goals as goal
@@ -6,6 +6,8 @@ use Rattle.continuation.proofs.program.Program.word.Goals.{After-from}
 use Rattle.continuation.specs.Decoding.{Decodes}
 use Rattle.continuation.specs.Programs.{records_in}
 use Rattle.language.proofs.Sizes.{held}
+use Rattle.language.specs.declared.word.Word.{Word}
+use Rattle.std.specs.Option.{IsSome}
 use Rattle.std.specs.Simd.{first_chunks}
 
 -- there are 976 words
@@ -22,14 +24,20 @@ row c = ap (λ (xs : List (List ℕ)). get_or xs c.from.result []) c.as_chunks.e
 pub bounds-words-from : goal.bounds-words-from
 bounds-words-from c = omega (arith, within (goal.at.bounds-words-from c).After-from, c.from.ensures, c.as_chunks.ensures.front_len)
 
-pub unreachable-requires : goal.unreachable-requires
-unreachable-requires c =
+-- the row stands for a word
+stands : (r : List ℕ) (o : Option Word) → Decodes r o → (Decodes r None → ⊥) → IsSome o
+stands r (Some w) d never = refl
+stands r None d never = absurd (never d)
+
+pub unwrap-requires : goal.unwrap-requires
+unwrap-requires c =
     let p = c.args.self.now in
-    let w = (goal.at.unreachable-requires c).After-from in
-    word_there (records_in p) (formed p) p.code p.coded c.args.at c.requires _ (within w) (subst (λ r. Decodes r None) (row w) c.in-None.ensures)
+    let w = (goal.at.unwrap-requires c).After-from in
+    stands _ c.decode.result c.decode.ensures (λ d. word_there (records_in p) (formed p) p.code p.coded c.args.at c.requires _ (within w) (subst (λ r. Decodes r None) (row w) d))
 
 pub returns : goal.returns
 returns c =
     let p = c.args.self.now in
     let w = (goal.at.returns c).After-from in
-    word_read (records_in p) (formed p) p.code p.coded c.args.at c.requires _ (within w) c.in-Some.word (subst (λ r. Decodes r (Some c.in-Some.word)) (row w) c.in-Some.ensures)
+    let read = subst (Decodes (get_or c.as_chunks.result.0.now c.from.result [])) c.unwrap.ensures c.decode.ensures in
+    word_read (records_in p) (formed p) p.code p.coded c.args.at c.requires _ (within w) c.unwrap.result (subst (λ r. Decodes r (Some c.unwrap.result)) (row w) read)

@@ -1,12 +1,9 @@
-use Rattle.std.proofs.Common.{◌≡◌, subst, w32, to_z, of_z, rules}
+use Rattle.std.proofs.Common.{Ok, w32, to_z, of_z, rules}
 use Rattle.direct.proofs.Programs.{formed, low}
-use Rattle.direct.proofs.Rules.{at_below, instruction_at, by_constant, by_move, by_subtract, by_goto}
+use Rattle.direct.proofs.Rules.{at_below, instruction_at, by_constant, by_move, by_subtract, by_goto, by_raise}
 use Rattle.direct.proofs.machine.Machine.beat.Goals as goal
 use Rattle.direct.specs.Machines.{state_of}
 use Rattle.direct.specs.Programs.{records_in}
-use Rattle.language.specs.Beats.{Raises, raise}
-use Rattle.language.specs.Progress.{progressed}
-use Rattle.language.specs.Runs.{value}
 
 pub instruction-requires : goal.instruction-requires
 instruction-requires g c =
@@ -42,9 +39,10 @@ returns-in-Goto g c =
     let p = c.args.program.now in
     by_goto (records_in p) (formed p) (state_of c.args.self.now) c.requires _ c.in-Goto.label c.link.result _ c.in-Goto.ensures c.link.ensures c.enter.ensures
 
-pub returns-in-Raise : goal.returns-in-Raise
-returns-in-Raise g c =
-    let t = records_in c.args.program.now in
-    let s = state_of c.args.self.now in
-    let same : to_z w32 (of_z w32 c.get-value-in-Raise.result) ≡ value s.variables c.in-Raise.x = search rules in
-    raise c.in-Raise.ensures (subst (λ v. Raises t s v (progressed c.raise.result (state_of c.raise.new.self))) same c.raise.ensures)
+pub returns-in_ok-raise-in-Raise : goal.returns-in_ok-raise-in-Raise
+returns-in_ok-raise-in-Raise g c =
+    by_raise (records_in c.args.program.now) (state_of c.args.self.now) _ _ (Ok tt) c.raise.result (search rules) c.in-Raise.x (to_z w32 (of_z w32 c.get-value-in-Raise.result)) (search rules) c.in-Raise.ensures c.raise.ensures
+
+pub returns-in_err-raise-in-Raise : goal.returns-in_err-raise-in-Raise
+returns-in_err-raise-in-Raise g c =
+    by_raise (records_in c.args.program.now) (state_of c.args.self.now) _ _ c.from_residual-in_err-raise-in-Raise.result c.raise.result (search rules) c.in-Raise.x (to_z w32 (of_z w32 c.get-value-in-Raise.result)) (search rules) c.in-Raise.ensures c.raise.ensures

@@ -1,6 +1,6 @@
 use Rattle.std.proofs.Common.{◌≡◌, ◌≤◌, true, [], length, take, sym, subst, arith, length-take-le, rules}
 use Rattle.direct.proofs.Programs.{formed, low}
-use Rattle.direct.proofs.Rules.{at_below, by_call, by_exhaust}
+use Rattle.direct.proofs.Rules.{at_below, by_called}
 use Rattle.direct.proofs.machine.Machine.call_routine.Goals as goal
 use Rattle.direct.proofs.machine.Machine.call_routine.Goals.{After-from}
 use Rattle.direct.specs.Machines.{state_of, Called}
@@ -34,14 +34,10 @@ call-requires c =
       placed = low c.args.program.now (state_of c.args.self.now) c.requires.reached;
     }
 
-pub returns-then-call : goal.returns-then-call
-returns-then-call c b =
+pub returns : goal.returns
+returns c b =
     let p = c.args.program.now in
     let s = state_of c.args.self.now in
-    let passed = subst (λ n. Called s c.args.x c.args.routine c.link-at.result.goes.at (take n c.args.arguments) true (state_of c.call.new.self)) c.from.ensures c.if-call.ensures in
-    by_call (records_in p) (formed p) s c.requires.reached b c.args.x c.args.routine c.args.count c.args.arguments c.link-at.result _ c.requires.here c.link-at.ensures passed
-
-pub returns-else-call : goal.returns-else-call
-returns-else-call c b =
-    let p = c.args.program.now in
-    by_exhaust (records_in p) (formed p) (state_of c.args.self.now) c.requires.reached b c.args.x c.args.routine c.args.count c.link-at.result.goes.at c.args.arguments [] _ c.requires.here c.if-call.ensures
+    let called = subst (λ n. Called s c.args.x c.args.routine c.link-at.result.goes.at (take n c.args.arguments) c.call.result (state_of c.call.new.self)) c.from.ensures c.call.ensures in
+    by_called (records_in p) (formed p) s c.requires.reached b c.args.x c.args.routine c.args.count c.args.arguments c.link-at.result c.call.result c.map_err.result _ c.requires.here c.link-at.ensures
+    (λ d e. search rules) (λ f e. search rules) called

@@ -11,10 +11,10 @@ loop-made-init g c = none_yet (records_in c.args.program.now) (state_of c.args.s
 pub beat-requires : goal.beat-requires
 beat-requires g c = c.loop-made.invariant.reached
 
-pub returns-in-Ended : goal.returns-in-Ended
-returns-in-Ended g c =
+pub returns-in-Err : goal.returns-in-Err
+returns-in-Err g c =
     let p = c.args.program.now in
-    ends (records_in p) (state_of c.args.self.now) _ c.loop-made.made (state_of c.loop-made.self) _ c.loop-made.invariant c.args.count c.in-Ended.ending _ _ c.loop-made-test.true c.in-Ended.ensures
+    ends (records_in p) (state_of c.args.self.now) _ c.loop-made.made (state_of c.loop-made.self) _ c.loop-made.invariant c.args.count c.in-Err.ending _ _ c.loop-made-test.true c.in-Err.ensures
 
 pub loop-made-preserved : goal.loop-made-preserved
 loop-made-preserved g c =

@@ -1,20 +1,21 @@
-use Rattle.std.proofs.Common.{◌≡◌, Some, None, sym, ap, subst}
+use Rattle.std.proofs.Common.{◌≡◌, Ok, Err, sym, subst, rules}
 use Rattle.direct.proofs.stand.Stand.load.Goals as goal
-use Rattle.direct.specs.Programs.{records_in}
-use Rattle.direct.specs.Stands.{stand_of}
+use Rattle.direct.specs.Stands.{stand_of, load_answer}
 use Rattle.language.specs.Calls.{load, done, loads, load_not}
 use Rattle.language.specs.Direct.{DirectCalls}
-use Rattle.table.specs.Checked.{records_of}
+use Rattle.table.specs.Checked.{records_of, Checked}
 
-pub invariant_of-self : goal.invariant_of-self
-invariant_of-self g c = record { kept = ∣ tt ∣₁ }
-
-pub returns-in-Ok : goal.returns-in-Ok
-returns-in-Ok g c =
+pub returns : goal.returns
+returns g c =
     let x = stand_of g.B.Bench.state c.args.self.now in
-    let same : records_of c.in-Ok.table ≡ records_in c.new.result = ap records_of (sym c.new.ensures) in
-    subst (λ t. DirectCalls x (load c.args.bytes.now) done (record { table = Some t; run = None; bench = x.bench })) same
-    (loads (records_of c.in-Ok.table) c.in-Ok.ensures.checked.holds c.in-Ok.ensures.checked.formed)
+    let is : c.check.result ≡ Ok c.in_ok-check.field-0 = search rules in
+    let checked = subst (Checked c.args.bytes.now) is c.check.ensures.checked in
+    subst (DirectCalls x (load c.args.bytes.now) done) (sym (c.new.ensures x.bench)) (loads (records_of c.in_ok-check.field-0) checked.holds checked.formed)
 
-pub returns-in-Err : goal.returns-in-Err
-returns-in-Err g c = load_not c.in-Err.ensures.checked
+pub returns-in_err-check : goal.returns-in_err-check
+returns-in_err-check g c =
+    let x = stand_of g.B.Bench.state c.args.self.now in
+    let is : c.check.result ≡ Err c.in_err-check.field-0.0 = search rules in
+    let told : c.from_residual.result ≡ Err c.in_err-check.field-0.0 = search rules in
+    let checked = subst (Checked c.args.bytes.now) is c.check.ensures.checked in
+    subst (λ r. DirectCalls x (load c.args.bytes.now) (load_answer r) x) (sym told) (load_not checked)

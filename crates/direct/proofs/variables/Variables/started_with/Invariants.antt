@@ -1,6 +1,0 @@
-use Rattle.std.proofs.Common.{◌≡◌, take}
-use Rattle.language.specs.Runs.{with_arguments}
-use Rattle.direct.proofs.variables.Variables.started_with.Given as goal
-
-abbrev pub invariant-loop-place : goal.invariant-loop-place
-invariant-loop-place l = l.values ≡ with_arguments (take l.place l.arguments)
