@@ -1,9 +1,9 @@
-use Rattle.std.proofs.Common.{◌<◌, length, get_or, ap, ◌∙◌, arith}
+use Rattle.std.proofs.Common.{get_or, ap, ◌∙◌}
 use Rattle.std.proofs.lemmas.Option.{slice_get-get_or}
 use Rattle.language.specs.declared.record.Record.TheVariants.{Routine}
-use Rattle.few.proofs.Pushing.{pushed, push_fits}
+use Rattle.few.proofs.Pushing.{pushed}
 use Rattle.few.specs.Held.{held}
-use Rattle.table.proofs.Indexing.{start, more_routine, more_block, more_body, room_routine, room_block, all_routines, all_blocks}
+use Rattle.table.proofs.Indexing.{more_routine, more_block, more_body}
 use Rattle.table.proofs.index.Index.new.Goals as goal
 use Rattle.table.proofs.index.Index.new.Goals.{in-Routine, in-Block, in-Body}
 
