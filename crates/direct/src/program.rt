@@ -9,6 +9,8 @@ use table::Table;
 mod reading;
 
 /// A table that is ready to run: with the links of its records.
+// the links lie beside the records, each at the place of its record: in the records there is no room for
+// them, and a list of both would be a second form of the table
 #[derive(Drop)]
 pub struct Program {
     pub table: Table,
