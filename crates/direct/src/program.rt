@@ -4,7 +4,7 @@ ghost use Rattle.table.specs.Checked.{records_of};
 
 use super::link::Link;
 use few::Few;
-use table::Table;
+use table::{MOST_RECORDS, Table};
 
 mod reading;
 
@@ -14,6 +14,6 @@ mod reading;
 #[derive(Drop)]
 pub struct Program {
     pub table: Table,
-    links: Few<Link, 256>,
+    links: Few<Link, MOST_RECORDS>,
     ghost linked: { ∥ Linked (records_of table) (held links) ∥₁ },
 }
