@@ -1,34 +1,39 @@
--- Arguments put into variables, one after the other.
-use Rattle.std.proofs.Common.{◌≡◌, ℕ, zero, suc, ◌+◌, ◌-◌, ◌<◌, ◌≤◌, List, [], ◌∷◌, ◌++◌, length, get_or, take, set, replicate, ℤ, pos, sym, ap, ◌∙◌, arith, length-append, length-take-le, take_all}
-use lib.ListN.{length-replicate}
-use Rattle.std.proofs.lemmas.List.{take_more, set-append_right, append_assoc}
+-- Arguments put into variables: what is made of a function of the place holds at each place.
+use Rattle.std.proofs.Common.{◌≡◌, ℕ, zero, suc, ◌+◌, ◌-◌, ◌<◌, ◌≤◌, ◌⊎◌, List, ◌++◌, length, get_or, replicate, ℤ, pos, inl, inr, refl, sym, ap, ◌∙◌, subst, arith, length-append}
+use denote.Param.Members.{Mut}
+use lib.ListN.{length-replicate, get_or-append, get_or-eq_default}
+use Rattle.std.proofs.lemmas.Bool.{cases_eq, cases_lt}
+use Rattle.std.proofs.lemmas.List.{get_or-append_right, get_or-replicate, get_or_default, same_lists}
+use Rattle.std.specs.Array.{IsFromFnResultFrom, IsFromFnResult}
+use Rattle.std.specs.Fn.{Called}
 use Rattle.language.specs.Runs.{variable_count, with_arguments}
 
--- the first of some zeros is set
-set_first : (n : ℕ) (v : ℤ) → 0 < n → set (replicate n (pos 0)) 0 v ≡ v ∷ replicate (n - 1) (pos 0)
-set_first zero v h = absurd (omega arith)
-set_first (suc n) v h = let e : suc n - 1 ≡ n = omega arith in ap (λ k. v ∷ replicate k (pos 0)) (sym e)
-
--- the variables where i arguments are put, and one more is
-pub one_more : (l : List ℤ) (i : ℕ) → i < length l → length l ≤ variable_count → set (with_arguments (take i l)) i (get_or l i (pos 0)) ≡ with_arguments (take (i + 1) l)
-one_more l i h most =
-    let v = get_or l i (pos 0) in
-    let some : length (take i l) ≡ i = length-take-le i l (omega arith) in
-    let more : length (take (i + 1) l) ≡ i + 1 = length-take-le (i + 1) l (omega arith) in
-    let left : variable_count - length (take (i + 1) l) ≡ variable_count - length (take i l) - 1 = omega arith in
-    let here : i - i ≡ 0 = omega arith in
-    let zeros = replicate (variable_count - length (take i l)) (pos 0) in
-    set-append_right (take i l) zeros i i v some (omega arith)
-    ∙ ap (λ k. take i l ++ set zeros k v) here
-    ∙ ap (λ xs. take i l ++ xs) (set_first (variable_count - length (take i l)) v (omega arith))
-    ∙ sym (append_assoc (take i l) (v ∷ []) (replicate (variable_count - length (take i l) - 1) (pos 0)))
-    ∙ ap (λ xs. xs ++ replicate (variable_count - length (take i l) - 1) (pos 0)) (sym (take_more l i (pos 0) h))
-    ∙ ap (λ k. take (i + 1) l ++ replicate k (pos 0)) (sym left)
+-- what stands at a place: the argument of that place, or 0
+at_place : (l : List ℤ) (k : ℕ) (d : ℤ) → k < variable_count → get_or (with_arguments l) k d ≡ get_or l k (pos 0)
+at_place l k d here = by (cases_lt k (length l))
+  where
+    by : (k < length l) ⊎ (length l ≤ k) → get_or (with_arguments l) k d ≡ get_or l k (pos 0)
+    by (inl h) = get_or-append l (replicate (variable_count - length l) (pos 0)) d k h ∙ get_or_default l k d (pos 0) h
+    by (inr h) =
+        get_or-append_right l (replicate (variable_count - length l) (pos 0)) (length l) k d refl h
+        ∙ get_or-replicate (variable_count - length l) (k - length l) (pos 0) d (omega arith)
+        ∙ sym (get_or-eq_default l (pos 0) h)
 
 -- as many values as there are variables
-pub full : (l : List ℤ) → length l ≤ variable_count → length (with_arguments l) ≡ variable_count
+full : (l : List ℤ) → length l ≤ variable_count → length (with_arguments l) ≡ variable_count
 full l most = length-append l _ ∙ ap (λ k. length l + k) (length-replicate (variable_count - length l) (pos 0)) ∙ omega arith
 
--- where all arguments are put
-pub done : (vs l : List ℤ) (i : ℕ) → vs ≡ with_arguments (take i l) → length l ≤ i → vs ≡ with_arguments l
-done vs l i e h = e ∙ ap with_arguments (take_all i l h)
+-- a closure that changes nothing, and answers with the argument of a place, or with 0
+module _ {F : Type 0} (g : Mut F (ℕ × Unit {0}) ℤ) (f : F) (l : List ℤ) (answers : (i : ℕ) (y : ℤ) (q : F) → Called g f (i, tt) y q → (y ≡ get_or l i (pos 0)) × (q ≡ f)) where
+  made_from : (ys : List ℤ) (n i k : ℕ) (p : F) → p ≡ f → IsFromFnResultFrom g p ys i n → i ≤ k → k < i + n → (d : ℤ) → get_or ys k d ≡ get_or l k (pos 0)
+  made_from ys zero i k p same m a b d = absurd (omega arith)
+  made_from ys (suc n) i k p same (q, y, there, call, rest) a b d =
+      let told = answers i y q (subst (λ r. Called g r (i, tt) y q) same call) in
+      elim (cases_eq k i) [
+        | inl e ↦ ap (λ j. get_or ys j d) e ∙ there.1 d ∙ told.0 ∙ ap (λ j. get_or l j (pos 0)) (sym e)
+        | inr e ↦ made_from ys n (i + 1) k q told.1 rest (omega arith) (omega arith) d
+      ]
+
+  pub placed : (ys : List ℤ) → length l ≤ variable_count → IsFromFnResult g f ys variable_count → ys ≡ with_arguments l
+  placed ys most m = same_lists ys (with_arguments l) (m.long ∙ sym (full l most))
+      (λ k d h. let here : k < variable_count = omega (arith, m.long, h) in made_from ys variable_count 0 k f refl m.each (omega arith) (omega arith) d ∙ sym (at_place l k d here))

@@ -4,6 +4,8 @@
 ghost use Rattle.std.specs.Prelude.{◌≡◌, ◌≤◌, map, length, slice_set};
 ghost use Rattle.language.specs.Runs.{variable_count, value, difference, with_arguments};
 
+use std::array;
+
 /// The sixteen variables of a routine.
 #[derive(Clone, Copy, PartialEq, Eq, Debug)]
 pub struct Variables {
@@ -30,12 +32,16 @@ impl Variables {
         requires { length arguments.now ≤ variable_count }
         ensures { result.values ≡ with_arguments (map (value self.now.values) arguments.now) }
     {
-        let mut values = [0; 16];
-        // by place: over `iter_mut().zip(..)` and by `array::from_fn` the proof did not close
-        for (place, argument) in arguments.iter().enumerate() {
-            values[place] = self.get(*argument);
+        Variables {
+            values: array::from_fn(|place| self.passed_at(arguments, place)),
         }
-        Variables { values }
+    }
+
+    /// What is passed at a place: the value of the argument there; 0 where there is none.
+    fn passed_at(&self, arguments: &[u8], place: usize) -> i32
+        ensures { result ≡ value (map (value self.now.values) arguments.now) place }
+    {
+        arguments.get(place).map_or(0, |x| self.get(*x))
     }
 
     /// The value of a variable; 0 where there is none of that number.
