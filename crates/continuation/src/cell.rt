@@ -10,6 +10,7 @@ pub struct Landing {
 /// What a save puts aside: the variable that is to have the result, the address of the rest, where a
 /// raised value lands if it may land here, the variables, and the continuation and the handler of before,
 /// which are cells told by their place.
+// told by place and not boxed: the cells are memory of a fixed size, 32 of them
 #[derive(Clone, Copy, PartialEq, Eq, Debug)]
 pub struct Cell {
     pub result: u8,

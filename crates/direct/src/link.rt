@@ -8,6 +8,7 @@ pub struct Target {
 }
 
 impl Target {
+    // no Option: a record that jumps has its target, and each jump would have to take it out again
     /// That of a jump that is never made.
     pub const NOWHERE: Target = Target {
         at: 0,

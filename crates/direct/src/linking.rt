@@ -10,10 +10,10 @@ use super::link::{Link, Target};
 use few::Few;
 use language::{Handler, Instruction, Record};
 use scopes::Scope;
-use table::Table;
+use table::{MOST_RECORDS, Table};
 
 /// The links of a table's records.
-pub fn link_table(table: &Table) -> Few<Link, 256>
+pub fn link_table(table: &Table) -> Few<Link, MOST_RECORDS>
     ensures { Linked (records_of table.now) (held result) }
 {
     let mut links = Few::new(Link::NONE);

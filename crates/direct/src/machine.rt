@@ -9,6 +9,8 @@ mod raise;
 
 /// A run between two beats: the routine that runs, the handler of its block, the place of its record,
 /// its variables and the frames that stand.
+// that the rules reach its state is said of machine and table together, so not by an invariant: a machine
+// does not hold the table, which stays when the run is dropped
 #[derive(Drop)]
 pub struct Machine {
     pub routine: u8,

@@ -4,14 +4,16 @@ ghost use Rattle.table.specs.Checked.{records_of};
 
 use super::link::Link;
 use few::Few;
-use table::Table;
+use table::{MOST_RECORDS, Table};
 
 mod reading;
 
 /// A table that is ready to run: with the links of its records.
+// the links lie beside the records, each at the place of its record: in the records there is no room for
+// them, and a list of both would be a second form of the table
 #[derive(Drop)]
 pub struct Program {
     pub table: Table,
-    links: Few<Link, 256>,
+    links: Few<Link, MOST_RECORDS>,
     ghost linked: { ∥ Linked (records_of table) (held links) ∥₁ },
 }

@@ -1,23 +1,10 @@
--- A text that grows by a line a word.
-use Rattle.std.proofs.Common.{◌≡◌, ℕ, ◌+◌, ◌<◌, ◌≤◌, List, [], ◌++◌, length, get_or, take, drop, codes, decimal, sym, ap, ◌∙◌, append_assoc, append-nil, add-one}
+-- A text that grows by the line of a word.
+use Rattle.std.proofs.Common.{◌≡◌, ℕ, ◌+◌, ◌<◌, ◌≤◌, List, [], ◌++◌, length, get_or, take, drop, codes, decimal, sym, ap, ◌∙◌, append_assoc}
 use lib.Utf8.{encode}
 use Rattle.std.specs.List.{flat_map}
-use Rattle.std.proofs.lemmas.List.{flat_map_more, take_more, take_all, drop_more, drop_all}
+use Rattle.std.proofs.lemmas.List.{flat_map_more, take_more, take_all}
 use Rattle.language.specs.Rows.{byte}
-use Rattle.listing.specs.Texts.{spaced, word_text_of, words_text}
-
-pub line_more : (ws : List (List ℕ)) (i : ℕ) (text line text' : List ℕ) → i < length ws → text ++ words_text i (drop i ws) ≡ words_text 0 ws → line ≡ word_text_of i (get_or ws i []) → text' ≡ text ++ line → text' ++ words_text (i + 1) (drop (i + 1) ws) ≡ words_text 0 ws
-line_more ws i text line text' l e f g =
-    let w = get_or ws i [] in
-    let here : words_text i (drop i ws) ≡ word_text_of i w ++ words_text (i + 1) (drop (i + 1) ws) =
-    ap (words_text i) (drop_more ws i [] l) ∙ ap (λ n. word_text_of i w ++ words_text n (drop (i + 1) ws)) (sym (add-one i)) in
-    ap (λ u. u ++ words_text (i + 1) (drop (i + 1) ws)) (g ∙ ap (λ u. text ++ u) f)
-    ∙ append_assoc text (word_text_of i w) (words_text (i + 1) (drop (i + 1) ws))
-    ∙ ap (λ u. text ++ u) (sym here)
-    ∙ e
-
-pub line_all : (ws : List (List ℕ)) (i : ℕ) (text : List ℕ) → length ws ≤ i → text ++ words_text i (drop i ws) ≡ words_text 0 ws → text ≡ words_text 0 ws
-line_all ws i text l e = sym (append-nil text) ∙ ap (λ vs. text ++ words_text i vs) (sym (drop_all i ws l)) ∙ e
+use Rattle.listing.specs.Texts.{spaced, word_text_of}
 
 -- a line that grows by a number a byte, from the text t₀
 pub fields_more : (fs : List ℕ) (i : ℕ) (t₀ t t' : List ℕ) → i < length fs → t ≡ t₀ ++ flat_map spaced (take i fs) → t' ≡ t ++ spaced (get_or fs i 0) → t' ≡ t₀ ++ flat_map spaced (take (i + 1) fs)

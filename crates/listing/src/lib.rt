@@ -14,15 +14,7 @@ pub fn list_table(heap: Global, bytes: &[u8]) -> Result<String, AllocError>
     ensures { IfOk result (λ s. Lists bytes.now (string_bytes s)) }
 {
     let mut code = [0; MOST_BYTES];
-    list_by(heap, bytes, &mut code)
-}
-
-/// The same, with a buffer for the translation.
-fn list_by(heap: Global, bytes: &[u8], code: &mut [u8]) -> Result<String, AllocError>
-    requires { length code.old ≡ 7808 }
-    ensures { IfOk result (λ s. Lists bytes.now (string_bytes s)) }
-{
-    match translate_bytes(bytes, code) {
+    match translate_bytes(bytes, &mut code) {
         Ok(written) => code_text(heap, &code[..written]),
         Err(fault) => refusal_text(heap, fault),
     }

@@ -1,6 +1,9 @@
 -- What two benches answered through a section is what the rules say, and the same.
-use Rattle.std.proofs.Common.{◌≡◌, ℕ, Bool, true, false, List, [], ◌∷◌, ◌++◌, map, length, take, ℤ, IfOk, Some, None, Ok, Err, vec_items, Result, sym, refl, ap, ◌∙◌, subst, arith}
+use Rattle.std.proofs.Common.{◌≡◌, ℕ, Bool, true, false, List, [], ◌∷◌, ◌++◌, map, length, take, ℤ, IfOk, Some, None, Ok, Err, vec_items, Result, Vec, sym, refl, ap, ◌∙◌, subst, arith}
 use Rattle.std.proofs.lemmas.List.{append_assoc, map-append, take_all}
+use Rattle.std.specs.declared.alloc.AllocError.{AllocError}
+use Rattle.std.specs.declared.alloc.Global.{Global}
+use Rattle.session.specs.Plays.{first_answers, second_answers}
 use Rattle.bench.specs.Histories.{History}
 use Rattle.bench.specs.Ranges.{Angle}
 use Rattle.bench.specs.Reading.{state_under}
@@ -89,3 +92,8 @@ same_performance x us vs (turned {z = z} {r = r} {q = q} {a = k} {s = s} {t = t}
     let replies : rs ≡ rs' = end.0 in
     let last : t ≡ t' = end.1 in
     cc
+
+-- what both benches answered is the same, since each performs the section
+pub both_alike : (x : Section) (r : Result (Vec Exchange Global) AllocError) → IfOk r (λ v. Performs x (first_answers (vec_items v))) → IfOk r (λ v. Performs x (second_answers (vec_items v))) →
+    IfOk r (λ v. first_answers (vec_items v) ≡ second_answers (vec_items v))
+both_alike x r = made_both r _ _ _ (λ v. same_performance x (first_answers (vec_items v)) (second_answers (vec_items v)))

@@ -23,27 +23,27 @@ impl Section {
         ensures alike { IfOk result (λ v. first_answers v.items ≡ second_answers v.items) }
     {
         let counts = self.pairing.counts;
-        match (self.pairing.first, self.pairing.second) {
-            (Kind::Site, Kind::Site) => self.perform_on(
-                heap,
-                SiteBench::set_up(counts),
-                SiteBench::set_up(counts),
-            ),
-            (Kind::Site, Kind::Log) => self.perform_on(
-                heap,
-                SiteBench::set_up(counts),
-                LogBench::set_up(counts),
-            ),
-            (Kind::Log, Kind::Site) => self.perform_on(
-                heap,
-                LogBench::set_up(counts),
-                SiteBench::set_up(counts),
-            ),
-            (Kind::Log, Kind::Log) => self.perform_on(
-                heap,
-                LogBench::set_up(counts),
-                LogBench::set_up(counts),
-            ),
+        match self.pairing.first {
+            Kind::Site => self.perform_beside(heap, SiteBench::set_up(counts)),
+            Kind::Log => self.perform_beside(heap, LogBench::set_up(counts)),
+        }
+    }
+
+    /// Performs the section on a bench that was just set up, and on one of the second kind.
+    fn perform_beside<P: Inspect + Drop>(
+        &self,
+        heap: Global,
+        first: SetUp<P>,
+    ) -> Result<Vec<Exchange>, AllocError>
+        requires { SetsUp self.now.pairing.counts first.1 (P.Bench.state first.0) }
+        ensures first { IfOk result (λ v. Performs self.now (first_answers v.items)) }
+        ensures second { IfOk result (λ v. Performs self.now (second_answers v.items)) }
+        ensures alike { IfOk result (λ v. first_answers v.items ≡ second_answers v.items) }
+    {
+        let counts = self.pairing.counts;
+        match self.pairing.second {
+            Kind::Site => self.perform_on(heap, first, SiteBench::set_up(counts)),
+            Kind::Log => self.perform_on(heap, first, LogBench::set_up(counts)),
         }
     }
 
@@ -58,6 +58,7 @@ impl Section {
         requires second { SetsUp self.now.pairing.counts second.1 (Q.Bench.state second.0) }
         ensures first { IfOk result (λ v. Performs self.now (first_answers v.items)) }
         ensures second { IfOk result (λ v. Performs self.now (second_answers v.items)) }
+        ensures alike { IfOk result (λ v. first_answers v.items ≡ second_answers v.items) }
     {
         let (first, first_outcome) = first;
         let (second, second_outcome) = second;

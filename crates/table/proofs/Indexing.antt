@@ -1,35 +1,22 @@
 -- What is picked from a list one by one, and the lines of a table one by one.
-use Rattle.std.proofs.Common.{◌≡◌, ℕ, zero, suc, ◌+◌, ◌<◌, ◌≤◌, List, [], ◌∷◌, ◌++◌, length, drop, Some, None, Option, sym, refl, ap, ◌∙◌, subst, append_assoc, append-nil, add-one, arith, length-append}
+use Rattle.std.proofs.Common.{◌≡◌, ℕ, suc, ◌+◌, List, [], ◌∷◌, ◌++◌, drop, Some, None, Option, sym, ap, ◌∙◌, subst, append_assoc, add-one}
 use Rattle.std.specs.List.{slice_get}
 use Rattle.language.specs.declared.handler.Handler.{Handler}
 use Rattle.language.specs.declared.instruction.Instruction.{Instruction}
 use Rattle.language.specs.declared.record.Record.{Record}
 use Rattle.language.specs.declared.record.Record.TheVariants.{Routine, Block, Body}
 use Rattle.language.specs.Lines.{line, lines}
-use Rattle.language.proofs.Lines.{length-lines}
 use Rattle.scopes.specs.declared.scope.Scope.{Scope}
 use Rattle.table.specs.declared.entries.RoutineEntry.{RoutineEntry}
 use Rattle.table.specs.declared.entries.BlockEntry.{BlockEntry}
-use Rattle.scopes.proofs.Scoped.{drop_nth, Under, under_start, Lined, under_next}
-use Rattle.table.specs.Entries.{kept, picked, routine_entry, block_entry, routine_entries, block_entries}
-use Rattle.scopes.specs.Scopes.{nowhere, scope_at}
-
-drop_past : {X : Type 0} (xs : List X) (p : ℕ) → length xs ≤ p → drop p xs ≡ []
-drop_past [] zero l = refl
-drop_past [] (suc p) l = refl
-drop_past (x ∷ xs) zero l = absurd (omega arith)
-drop_past (x ∷ xs) (suc p) l = drop_past xs p (omega arith)
+use Rattle.scopes.proofs.Scoped.{drop_nth, Under, Lined, under_next}
+use Rattle.table.specs.Entries.{kept, picked, routine_entry, block_entry}
+use Rattle.scopes.specs.Scopes.{scope_at}
 
 module _ {X E : Type 0} (pick : ℕ → X → Option E) (xs : List X) where
   -- es are picked up to p, and the rest follows
   pub record Picked (es : List E) (p : ℕ) : Type 0 where
     pub all : es ++ picked pick p (drop p xs) ≡ picked pick 0 xs
-
-  pub picked_start : Picked [] 0
-  picked_start = record { all = refl }
-
-  pub picked_done : (es : List E) (p : ℕ) → length xs ≤ p → Picked es p → es ≡ picked pick 0 xs
-  picked_done es p l far = sym (append-nil es) ∙ ap (λ v. es ++ picked pick p v) (sym (drop_past xs p l)) ∙ far.all
 
   module _ (es : List E) (p : ℕ) (far : Picked es p) (x : X) (is : slice_get xs p ≡ Some x) where
     split : es ++ kept (pick p x) (picked pick (suc p) (drop (suc p) xs)) ≡ picked pick 0 xs
@@ -43,24 +30,11 @@ module _ {X E : Type 0} (pick : ℕ → X → Option E) (xs : List X) where
     pub picked_none : pick p x ≡ None → Picked es (p + 1)
     picked_none at = subst (Picked es) (sym (add-one p)) (record { all = ap (λ v. es ++ kept v (picked pick (suc p) (drop (suc p) xs))) (sym at) ∙ split })
 
-    pub picked_room : (e : E) → pick p x ≡ Some e → length es < length (picked pick 0 xs)
-    picked_room e at =
-        let n = ap length (ap (λ v. es ++ kept v (picked pick (suc p) (drop (suc p) xs))) (sym at) ∙ split) in
-        let m = length-append es (e ∷ picked pick (suc p) (drop (suc p) xs)) in
-        omega arith
-
 -- what the loop over the records keeps
 pub record Sofar (t : List Record) (p : ℕ) (s : Scope) (rs : List RoutineEntry) (bs : List BlockEntry) : Type 0 where
   pub under : Under t p s
   pub routines : Picked routine_entry t rs p
   pub blocks : Picked block_entry (lines t) bs p
-
-pub start : (t : List Record) (s : Scope) (rs : List RoutineEntry) (bs : List BlockEntry) → s ≡ nowhere → rs ≡ [] → bs ≡ [] → Sofar t 0 s rs bs
-start t s rs bs es er eb = record {
-  under = under_start t s es;
-  routines = subst (λ v. Picked routine_entry t v 0) (sym er) (picked_start routine_entry t);
-  blocks = subst (λ v. Picked block_entry (lines t) v 0) (sym eb) (picked_start block_entry (lines t));
-}
 
 module _ (t : List Record) (p : ℕ) (s : Scope) (rs : List RoutineEntry) (bs : List BlockEntry) (far : Sofar t p s rs bs)
     (x : Record) (is : slice_get t p ≡ Some x) (s' : Scope) (at : s' ≡ scope_at s x) where
@@ -91,16 +65,3 @@ module _ (t : List Record) (p : ℕ) (s : Scope) (rs : List RoutineEntry) (bs : 
       routines = subst (λ v. Picked routine_entry t v (p + 1)) (sym er) (picked_none routine_entry t rs p far.routines x is (ap (routine_entry p) e));
       blocks = subst (λ v. Picked block_entry (lines t) v (p + 1)) (sym eb) (picked_none block_entry (lines t) bs p far.blocks _ lined.is (ap (λ v. block_entry p (line s'.routine s'.variables s'.handler v)) e));
     }
-
-  pub room_routine : (a b c : ℕ) → x ≡ Routine a b c → length rs < length (routine_entries t)
-  room_routine a b c e = picked_room routine_entry t rs p far.routines x is _ (ap (routine_entry p) e)
-
-  pub room_block : (l : ℕ) (k : Option Handler) → x ≡ Block l k → length bs < length (block_entries t)
-  room_block l k e = picked_room block_entry (lines t) bs p far.blocks _ lined.is _ (ap (λ v. block_entry p (line s'.routine s'.variables s'.handler v)) e)
-
-module _ (t : List Record) (p : ℕ) (s : Scope) (rs : List RoutineEntry) (bs : List BlockEntry) (far : Sofar t p s rs bs) (all : length t ≤ p) where
-  pub all_routines : rs ≡ routine_entries t
-  all_routines = picked_done routine_entry t rs p all far.routines
-
-  pub all_blocks : bs ≡ block_entries t
-  all_blocks = picked_done block_entry (lines t) bs p (omega (arith, length-lines t 0 0 None)) far.blocks

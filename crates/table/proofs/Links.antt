@@ -2,13 +2,13 @@
 use Rattle.std.proofs.Common.{◌≡◌, ℕ, suc, ◌+◌, Bool, true, false, ◌⊎◌, List, [], ◌∷◌, get_or, Some, None, Option, sym, refl, ap, ◌∙◌, inl, inr, arith}
 use Rattle.std.specs.List.{slice_get}
 use Rattle.std.specs.Option.{option_map}
-use Rattle.std.proofs.lemmas.Option.{slice_get-get_or}
+use Rattle.std.proofs.lemmas.Option.{get_or_from_slice_get}
 use Rattle.language.specs.declared.record.Record.{Record}
 use Rattle.language.specs.declared.record.Record.TheVariants.{Routine, Block, Body}
 use Rattle.language.specs.Forms.{Called, called}
 use Rattle.language.specs.Lines.{Line, line, lines, place, heads_routine, heads_block, routine_place, block_place, Enters}
 use Rattle.language.specs.Causes.{Absent, Miscounted}
-use Rattle.language.proofs.Lists.{clash, nth_below, place_in}
+use Rattle.language.proofs.Lists.{clash, place_in}
 use Rattle.language.proofs.Lines.{routine_of, BlockOf, block_of}
 use Rattle.table.specs.declared.entries.RoutineEntry.{RoutineEntry}
 use Rattle.table.specs.declared.entries.BlockEntry.{BlockEntry}
@@ -60,10 +60,6 @@ module _ {X E : Type 0} (pick : ℕ → X → Option E) (test : X → Bool) (ent
 some_same : {X : Type 0} (x y : X) → Some x ≡ Some y → x ≡ y
 some_same x y e = cc
 
--- what a read gives at a place where an entry stands
-read : {E : Type 0} (es : List E) (k : ℕ) (e d : E) → slice_get es k ≡ Some e → get_or es k d ≡ e
-read es k e d h = let n = slice_get-get_or es k d (nth_below es k e h) in cc
-
 module _ (g : ℕ) where
   routine_alike : (i : ℕ) (x : Record) (e : RoutineEntry) → routine_entry i x ≡ Some e → of_routine g e ≡ heads_routine g x
   routine_alike i (Routine a b c) e h = ap (of_routine g) (sym (some_same _ _ h))
@@ -108,7 +104,7 @@ module _ (g : ℕ) where
             locals = r.1;
             enters = record { first = b.here; there = cc };
             there = b.there;
-            entry = read (routine_entries t) b.k b.e no_routine_entry b.entry ∙ sym (some_same _ _ is);
+            entry = get_or_from_slice_get (routine_entries t) b.k b.e no_routine_entry b.entry ∙ sym (some_same _ _ is);
           })
 
   pub routine_at_is : (t : List Record) → routine_at_of (routine_entries t) g ≡ routine_place t g
@@ -155,7 +151,7 @@ module _ (r l : ℕ) where
           let e1 = at.1 in let e3 = b.at in
           let x : at.0 ≡ b.x = cc in
           let is = entry_place b.x b.e b.j (block_of r l b.x (ap (heads_block r l) (sym x) ∙ at.2)) b.is in
-          ap found b.there ∙ ap (λ (e : BlockEntry). Some e.place) (read (block_entries t) b.k b.e no_block_entry b.entry) ∙ ap Some is ∙ sym b.here
+          ap found b.there ∙ ap (λ (e : BlockEntry). Some e.place) (get_or_from_slice_get (block_entries t) b.k b.e no_block_entry b.entry) ∙ ap Some is ∙ sym b.here
 
   pub block_named : (t : List Record) (bs : List BlockEntry) (b : Option BlockEntry) → b ≡ block_found bs r l → bs ≡ block_entries t → option_map (λ (e : BlockEntry). e.place) b ≡ block_place t r l
   block_named t bs b is same = ap (option_map (λ (e : BlockEntry). e.place)) is ∙ ap (λ es. block_at es r l) same ∙ block_at_is t

@@ -5,12 +5,6 @@ use Rattle.std.specs.Result.{IsErrAnd}
 use Rattle.language.proofs.Lists.{clash}
 
 module _ {X C D : Type 0} (Q : C → D → Type 0) where
-  pub mapped_ok : (d : Result X C) (m : Result X D) (x : X) → MatchResult d (λ x. m ≡ Ok x) (λ e. IsErrAnd m (Q e)) → m ≡ Ok x → d ≡ Ok x
-  mapped_ok (Ok y) (Ok z) x h e = let v : y ≡ x = cc in ap Ok v
-  mapped_ok (Ok y) (Err l) x h e = clash (cc)
-  mapped_ok (Err c) (Ok y) x h e = absurd h
-  mapped_ok (Err c) (Err l) x h e = clash (cc)
-
   pub mapped_err : (d : Result X C) (m : Result X D) (l : D) → MatchResult d (λ x. m ≡ Ok x) (λ e. IsErrAnd m (Q e)) → m ≡ Err l → (e : C) × (d ≡ Err e) × Q e l
   mapped_err (Ok y) (Ok x) l h e = clash (cc)
   mapped_err (Ok y) (Err k) l h e = clash (cc)

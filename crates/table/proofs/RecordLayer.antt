@@ -1,8 +1,9 @@
 -- What one turn of layer 1's loop keeps, and what its ends give.
-use Rattle.std.proofs.Common.{◌≡◌, ℕ, zero, suc, ◌+◌, ◌*◌, ◌/◌, ◌<◌, ◌≤◌, List, [], ◌∷◌, ◌++◌, map, length, get_or, take, drop, Some, sym, refl, ap, ◌∙◌, subst, arith, length-drop, take-append-drop, length-take, take_all}
+use Rattle.std.proofs.Common.{◌≡◌, ℕ, zero, suc, ◌*◌, ◌/◌, ◌<◌, ◌≤◌, List, [], ◌∷◌, ◌++◌, map, length, get_or, take, drop, Some, sym, refl, ap, ◌∙◌, subst, arith, length-drop, take-append-drop, take_all}
 use Rattle.std.specs.List.{slice_get, AllByRecursion, flat_map}
 use Rattle.std.specs.Simd.{first_chunks}
-use Rattle.std.proofs.lemmas.List.{take_more, map-append, length-map}
+use Rattle.std.proofs.lemmas.List.{length-map}
+use Rattle.std.proofs.lemmas.List.Folds.{flat_map-map}
 use Rattle.std.proofs.lemmas.Option.{slice_get-get_or}
 use Rattle.language.specs.declared.cause.RecordCause.{RecordCause}
 use Rattle.language.specs.declared.cause.RecordCause.TheVariants.{Length, Letter, Range, Padding}
@@ -14,25 +15,12 @@ use Rattle.language.specs.Causes.{record_number_of, InRecords, bad_length, bad_l
 use Rattle.language.specs.Refusals.{First}
 use Rattle.language.proofs.Lists.{all_nth}
 use Rattle.language.proofs.Bytes.{row_sound, nth_map}
-use Rattle.table.specs.Rows.{Missed, StandsFor}
+use Rattle.table.specs.Rows.{Missed}
 
 -- the first p rows stand for the records t
 pub record Sofar (rs : List (List ℕ)) (t : List Record) (p : ℕ) : Type 0 where
   pub same : map encode t ≡ take p rs
   pub ranged : AllByRecursion InRange t
-
-pub start : (rs : List (List ℕ)) → Sofar rs [] 0
-start rs = record { same = refl; ranged = tt }
-
-all_push : {X : Type 0} (P : X → Type 0) (xs : List X) (x : X) → AllByRecursion P xs → P x → AllByRecursion P (xs ++ x ∷ [])
-all_push P [] x a h = (h, tt)
-all_push P (y ∷ xs) x a h = (a.0, all_push P xs x a.1 h)
-
-pub more : (rs : List (List ℕ)) (t : List Record) (p : ℕ) (x : Record) → p < length rs → StandsFor (get_or rs p []) x → Sofar rs t p → Sofar rs (t ++ x ∷ []) (p + 1)
-more rs t p x on here far = record {
-  same = map-append encode t (x ∷ []) ∙ (λ i. far.same i ++ here.same i ∷ []) ∙ sym (take_more rs p [] on);
-  ranged = all_push InRange t x far.ranged here.ranged;
-}
 
 nth_take : {X : Type 0} (xs : List X) (p q : ℕ) → q < p → slice_get (take p xs) q ≡ slice_get xs q
 nth_take [] zero q l = refl
@@ -97,10 +85,6 @@ module _ (bs : List ℕ) (whole : Whole bs) (t : List Record) (p : ℕ) (far : S
       let is = slice_get-get_or (rows bs) p [] on in
       record { here = here (get_or (rows bs) p []) is k h; before = before; lower = λ j. lower (get_or (rows bs) p []) is k h j p refl }
 
-joined_rows : (t : List Record) → flat_map encode t ≡ flat_map (λ (r : List ℕ). r) (map encode t)
-joined_rows [] = refl
-joined_rows (x ∷ t) = ap (λ (r : List ℕ). encode x ++ r) (joined_rows t)
-
 joined_chunked : (k : ℕ) (xs : List ℕ) → length xs ≡ 8 * k → flat_map (λ (r : List ℕ). r) (first_chunks 8 k xs) ≡ xs
 joined_chunked zero [] e = refl
 joined_chunked zero (x ∷ xs) e = absurd (omega arith)
@@ -124,7 +108,7 @@ done bs whole t p far all =
     let m : length t ≡ length bs / 8 = sym (length-map t encode) ∙ ap length e ∙ n in
     let k : length bs ≡ 8 * (length bs / 8) = omega arith in
     record {
-      same = joined_rows t ∙ ap (flat_map (λ (r : List ℕ). r)) e ∙ joined_chunked (length bs / 8) bs k;
+      same = sym (flat_map-map (λ (r : List ℕ). r) encode t) ∙ ap (flat_map (λ (r : List ℕ). r)) e ∙ joined_chunked (length bs / 8) bs k;
       legible = record { some = omega arith; few = omega arith; ranged = far.ranged };
     }
 
@@ -136,7 +120,3 @@ no_table bs none = record { here = bad_length none; before = λ j q l h. absurd 
     least Letter l h = absurd (omega arith)
     least Range l h = absurd (omega arith)
     least Padding l h = absurd (omega arith)
-
--- the records read are as many as the rows passed
-pub counted : (rs : List (List ℕ)) (t : List Record) (p : ℕ) → p ≤ length rs → Sofar rs t p → length t ≡ p
-counted rs t p l far = sym (length-map t encode) ∙ ap length far.same ∙ omega (arith, length-take p rs)

@@ -5,6 +5,8 @@ ghost use Rattle.table.specs.Rows.{Decodes, Reads};
 
 use language::{Handler, Instruction, Record, RecordCause};
 
+// a function, and no `TryFrom`: both types are of other crates
+
 /// The record that eight bytes stand for, or the lowest cause that they stand for none.
 pub fn decode(bytes: [u8; 8]) -> Result<Record, RecordCause>
     ensures decodes { Decodes bytes result }
@@ -84,6 +86,8 @@ fn read(bytes: [u8; 8]) -> Result<Record, RecordCause>
 fn spare(count: u8, arguments: [u8; 4]) -> bool
     ensures { Decides result (Spare count arguments) }
 {
-    let [a, b, c, d] = arguments;
-    (count > 0 || a == 0) && (count > 1 || b == 0) && (count > 2 || c == 0) && (count > 3 || d == 0)
+    arguments
+        .iter()
+        .skip(usize::from(count))
+        .all(|spare| *spare == 0)
 }

@@ -3,10 +3,13 @@ use std::process::Abort;
 use std::test::Fail;
 use table::check;
 
-/// Records, and the refusal that they get: layer, cause and place; all 0 if they are accepted.
+/// The numbers of a refusal: layer, cause and place.
+type Refusal = (u8, u8, usize);
+
+/// Records, and the refusal that they get, if they are not accepted.
 struct Case {
     rows: &'static [[u8; 8]],
-    refusal: (u8, u8, usize),
+    refusal: Option<Refusal>,
 }
 
 /// The heading of routine 0, with one variable.
@@ -25,15 +28,15 @@ const C0: [u8; 8] = [b'C', 0, 0, 0, 1, 2, 3, 4];
 const ACCEPTED: [Case; 5] = [
     Case {
         rows: &[R0, T0],
-        refusal: (0, 0, 0),
+        refusal: None,
     },
     Case {
         rows: &[[b'R', 0, 4, 12, 0, 0, 0, 0], T0],
-        refusal: (0, 0, 0),
+        refusal: None,
     },
     Case {
         rows: &[R0, C0, G7, B7, T0, R1, G7, B7, T0],
-        refusal: (0, 0, 0),
+        refusal: None,
     },
     Case {
         rows: &[
@@ -42,160 +45,160 @@ const ACCEPTED: [Case; 5] = [
             [b'B', 7, 1, 7, 0, 0, 0, 0],
             [b'X', 0, 0, 0, 0, 0, 0, 0],
         ],
-        refusal: (0, 0, 0),
+        refusal: None,
     },
     Case {
         rows: &[R0, [b'F', 0, 0, 0, 0, 0, 0, 0], T0],
-        refusal: (0, 0, 0),
+        refusal: None,
     },
 ];
 
 const RECORDS: [Case; 12] = [
     Case {
         rows: &[],
-        refusal: (1, 1, 0),
+        refusal: Some((1, 1, 0)),
     },
     Case {
         rows: &[[b'r', 0, 0, 1, 0, 0, 0, 0], T0],
-        refusal: (1, 2, 0),
+        refusal: Some((1, 2, 0)),
     },
     Case {
         rows: &[R0, [b'H', 0, 0, 0, 0, 0, 0, 0]],
-        refusal: (1, 2, 1),
+        refusal: Some((1, 2, 1)),
     },
     Case {
         rows: &[[b'R', 0, 4, 13, 0, 0, 0, 0], T0],
-        refusal: (1, 3, 0),
+        refusal: Some((1, 3, 0)),
     },
     Case {
         rows: &[[b'R', 0, 4, 252, 0, 0, 0, 0], T0],
-        refusal: (1, 3, 0),
+        refusal: Some((1, 3, 0)),
     },
     Case {
         rows: &[[b'R', 0, 5, 0, 0, 0, 0, 0], T0],
-        refusal: (1, 3, 0),
+        refusal: Some((1, 3, 0)),
     },
     Case {
         rows: &[R0, T0, [b'B', 7, 2, 0, 0, 0, 0, 0], T0],
-        refusal: (1, 3, 2),
+        refusal: Some((1, 3, 2)),
     },
     Case {
         rows: &[R0, [b'A', 0, 6, 0, 0, 0, 0, 0], T0],
-        refusal: (1, 3, 1),
+        refusal: Some((1, 3, 1)),
     },
     Case {
         rows: &[R0, [b'F', 0, 0, 5, 0, 0, 0, 0], T0],
-        refusal: (1, 3, 1),
+        refusal: Some((1, 3, 1)),
     },
     Case {
         rows: &[[b'R', 0, 0, 1, 1, 0, 0, 0], T0],
-        refusal: (1, 4, 0),
+        refusal: Some((1, 4, 0)),
     },
     Case {
         rows: &[R0, T0, [b'B', 7, 0, 0, 1, 0, 0, 0], T0],
-        refusal: (1, 4, 2),
+        refusal: Some((1, 4, 2)),
     },
     Case {
         rows: &[R0, [b'F', 0, 0, 1, 0, 9, 0, 0], T0],
-        refusal: (1, 4, 1),
+        refusal: Some((1, 4, 1)),
     },
 ];
 
 const BLOCKS: [Case; 7] = [
     Case {
         rows: &[B7, T0],
-        refusal: (2, 5, 0),
+        refusal: Some((2, 5, 0)),
     },
     Case {
         rows: &[R0],
-        refusal: (2, 6, 1),
+        refusal: Some((2, 6, 1)),
     },
     Case {
         rows: &[R0, B7, T0],
-        refusal: (2, 6, 1),
+        refusal: Some((2, 6, 1)),
     },
     Case {
         rows: &[R0, C0, R1, T0],
-        refusal: (2, 6, 2),
+        refusal: Some((2, 6, 2)),
     },
     Case {
         rows: &[R0, T0, B7, C0],
-        refusal: (2, 6, 4),
+        refusal: Some((2, 6, 4)),
     },
     Case {
         rows: &[R0, T0, T0],
-        refusal: (2, 7, 2),
+        refusal: Some((2, 7, 2)),
     },
     Case {
         rows: &[R0, T0, B7, T0, C0],
-        refusal: (2, 7, 4),
+        refusal: Some((2, 7, 4)),
     },
 ];
 
 const NAMES: [Case; 17] = [
     Case {
         rows: &[R0, T0, R0, T0],
-        refusal: (3, 9, 2),
+        refusal: Some((3, 9, 2)),
     },
     Case {
         rows: &[R0, G7, R0, T0, B7, T0],
-        refusal: (3, 9, 2),
+        refusal: Some((3, 9, 2)),
     },
     Case {
         rows: &[R0, T0, R1, T0, R1, T0],
-        refusal: (3, 9, 4),
+        refusal: Some((3, 9, 4)),
     },
     Case {
         rows: &[R0, T0, B7, T0, B7, T0],
-        refusal: (3, 10, 4),
+        refusal: Some((3, 10, 4)),
     },
     Case {
         rows: &[R0, T0, B7, T0, R1, T0, B7, T0, B7, T0],
-        refusal: (3, 10, 8),
+        refusal: Some((3, 10, 8)),
     },
     Case {
         rows: &[R1, T0],
-        refusal: (3, 11, 2),
+        refusal: Some((3, 11, 2)),
     },
     Case {
         rows: &[R1, C0, G7, B7, T0],
-        refusal: (3, 11, 5),
+        refusal: Some((3, 11, 5)),
     },
     Case {
         rows: &[[b'R', 0, 0, 0, 0, 0, 0, 0], T0],
-        refusal: (3, 12, 1),
+        refusal: Some((3, 12, 1)),
     },
     Case {
         rows: &[R0, [b'A', 0, 3, 9, 0, 0, 0, 0], T0],
-        refusal: (3, 12, 1),
+        refusal: Some((3, 12, 1)),
     },
     Case {
         rows: &[R0, G7, [b'B', 7, 1, 7, 1, 0, 0, 0], T0],
-        refusal: (3, 12, 2),
+        refusal: Some((3, 12, 2)),
     },
     Case {
         rows: &[R0, G7],
-        refusal: (3, 13, 1),
+        refusal: Some((3, 13, 1)),
     },
     Case {
         rows: &[R0, G7, [b'B', 7, 1, 0, 0, 0, 0, 0], T0],
-        refusal: (3, 13, 2),
+        refusal: Some((3, 13, 2)),
     },
     Case {
         rows: &[R0, T0, B7, T0, R1, G7],
-        refusal: (3, 13, 5),
+        refusal: Some((3, 13, 5)),
     },
     Case {
         rows: &[R0, [b'F', 0, 5, 1, 0, 0, 0, 0], T0],
-        refusal: (3, 14, 1),
+        refusal: Some((3, 14, 1)),
     },
     Case {
         rows: &[R0, C0, [b'F', 0, 5, 1, 0, 0, 0, 0], T0],
-        refusal: (3, 14, 2),
+        refusal: Some((3, 14, 2)),
     },
     Case {
         rows: &[R0, [b'F', 0, 1, 1, 0, 0, 0, 0], T0, R1, T0],
-        refusal: (3, 15, 1),
+        refusal: Some((3, 15, 1)),
     },
     Case {
         rows: &[
@@ -207,7 +210,7 @@ const NAMES: [Case; 17] = [
             [b'R', 5, 0, 1, 0, 0, 0, 0],
             T0,
         ],
-        refusal: (3, 15, 1),
+        refusal: Some((3, 15, 1)),
     },
 ];
 
@@ -220,12 +223,10 @@ fn joined(heap: Global, rows: &[[u8; 8]]) -> Result<Vec<u8>, AllocError> {
     Ok(bytes)
 }
 
-/// The layer, the cause and the place of the refusal of some bytes, or three times 0.
-fn refusal(bytes: &[u8]) -> (u8, u8, usize) {
-    match check(bytes) {
-        Ok(_) => (0, 0, 0),
-        Err(fault) => (fault.layer(), fault.cause(), fault.place()),
-    }
+/// The refusal of some bytes, if they are refused.
+fn refusal(bytes: &[u8]) -> Option<Refusal> {
+    let fault = check(bytes).err()?;
+    Some((fault.layer(), fault.cause(), fault.place()))
 }
 
 fn try_all(rt: &impl Abort, heap: Global, cases: &[Case]) -> Result<(), Fail> {
@@ -258,17 +259,17 @@ fn refused_by_names(rt: HostRuntime) -> Result<(), Fail> {
 
 #[test]
 fn refused_by_length(rt: HostRuntime) -> Result<(), Fail> {
-    assert_eq!(rt; refusal(&[]), (1, 1, 0));
-    assert_eq!(rt; refusal(b"R"), (1, 1, 0));
-    assert_eq!(rt; refusal(&[0; 15]), (1, 1, 0));
+    assert_eq!(rt; refusal(&[]), Some((1, 1, 0)));
+    assert_eq!(rt; refusal(b"R"), Some((1, 1, 0)));
+    assert_eq!(rt; refusal(&[0; 15]), Some((1, 1, 0)));
     assert_eq!(rt;
         refusal(long(rt.alloc(), 254)?.as_slice()),
-        (0, 0, 0),
+        None,
         "256 records"
     );
     assert_eq!(rt;
         refusal(long(rt.alloc(), 255)?.as_slice()),
-        (1, 1, 0),
+        Some((1, 1, 0)),
         "257 records"
     );
     Ok(())
@@ -289,27 +290,27 @@ fn refused_by_count(rt: HostRuntime) -> Result<(), Fail> {
     let heap = rt.alloc();
     assert_eq!(rt;
         refusal(headings(heap, &[], R0, 16)?.as_slice()),
-        (0, 0, 0),
+        None,
         "16 routines"
     );
     assert_eq!(rt;
         refusal(headings(heap, &[], R0, 17)?.as_slice()),
-        (2, 8, 32),
+        Some((2, 8, 32)),
         "17 routines"
     );
     assert_eq!(rt;
         refusal(headings(heap, &[R0, T0], B7, 64)?.as_slice()),
-        (0, 0, 0),
+        None,
         "64 blocks"
     );
     assert_eq!(rt;
         refusal(headings(heap, &[R0, T0], B7, 65)?.as_slice()),
-        (2, 8, 130),
+        Some((2, 8, 130)),
         "65 blocks"
     );
     assert_eq!(rt;
         refusal(headings(heap, &[R0, C0, T0], B7, 70)?.as_slice()),
-        (2, 8, 131),
+        Some((2, 8, 131)),
         "70 blocks"
     );
     Ok(())

@@ -1,6 +1,7 @@
 -- The words of a table, written record by record.
 use Rattle.std.proofs.Common.{◌≡◌, ℕ, zero, suc, ◌+◌, ◌*◌, ◌≤◌, List, [], ◌∷◌, ◌++◌, length, take, Some, None, sym, refl, ap, ◌∙◌, append_assoc, append-nil, add-one, arith, take_all}
 use Rattle.std.specs.List.{slice_get, flat_map}
+use Rattle.std.proofs.lemmas.Grind.{flat_map-append}
 use Rattle.language.specs.declared.record.Record.{Record}
 use Rattle.language.specs.Lines.{lines}
 use Rattle.language.specs.Code.{word_bytes, code}
@@ -13,10 +14,6 @@ use Rattle.scopes.specs.Scopes.{nowhere, scope_at}
 use Rattle.translation.proofs.Appending.{none_appends, then_appends}
 use Rattle.translation.proofs.Collecting.{address_more, address_below}
 use Rattle.scopes.proofs.Scoped.{Under, under_start, under_next}
-
-joined_both : {X Y : Type 0} (f : X → List Y) (xs ys : List X) → flat_map f (xs ++ ys) ≡ flat_map f xs ++ flat_map f ys
-joined_both f [] ys = refl
-joined_both f (x ∷ xs) ys = ap (λ zs. f x ++ zs) (joined_both f xs ys) ∙ sym (append_assoc (f x) (flat_map f xs) (flat_map f ys))
 
 joined_next : {X Y : Type 0} (f : X → List Y) (xs : List X) (i : ℕ) (x : X) → slice_get xs i ≡ Some x → flat_map f (take (suc i) xs) ≡ flat_map f (take i xs) ++ f x
 joined_next f [] i x e = clash (cc)
@@ -44,7 +41,7 @@ module _ (t : List Record) (i : ℕ) (c c' : Scope) (x : Record) (at : ℕ) (out
       let n = under_next t i c so_far.under x c' on is in
       let w = words t c'.routine c'.handler x in
       let f : front_code t (i + 1) ≡ front_code t i ++ flat_map word_bytes w =
-      ap (λ k. front_code t k) (add-one i) ∙ ap (flat_map word_bytes) (joined_next (line_words t) (lines t) i _ n.1.is) ∙ joined_both word_bytes (flat_map (line_words t) (take i (lines t))) w in
+      ap (λ k. front_code t k) (add-one i) ∙ ap (flat_map word_bytes) (joined_next (line_words t) (lines t) i _ n.1.is) ∙ flat_map-append word_bytes (flat_map (line_words t) (take i (lines t))) w in
       record {
         under = n.0;
         place = omega (arith, so_far.place, address_more t i c c' x so_far.under on is);

@@ -3,6 +3,8 @@ ghost use Rattle.language.specs.Code.{letter as letter_of, word_bytes};
 
 use language::{Operation, Word};
 
+// a function, and no `From`: both types are of other crates
+
 /// The eight bytes of a word.
 pub fn encode(word: Word) -> [u8; 8]
     ensures { result ≡ word_bytes word }

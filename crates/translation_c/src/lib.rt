@@ -4,6 +4,8 @@
 
 ghost use Rattle.translation.specs.Answers.{Told};
 
+// one number for both outcomes: C has no `Result`
+
 /// Translates the bytes of a table: how many bytes were written, or −(cause × 1000 + place).
 #[unsafe(no_mangle)]
 pub extern "C" fn translate(table: &[u8], out: &mut [u8]) -> i32

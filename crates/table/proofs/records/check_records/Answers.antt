@@ -1,40 +1,19 @@
-use Rattle.std.proofs.Common.{◌≡◌, ℕ, ◌+◌, ◌<◌, ◌≤◌, List, [], length, get_or, Err, sym, ap, ◌∙◌, subst, arith, rules}
+use Rattle.std.proofs.Common.{◌≡◌, ℕ, ◌<◌, ◌≤◌, List, [], length, get_or, Err, sym, ap, ◌∙◌, subst, rules}
 use Rattle.std.proofs.lemmas.Bool.{false≢true}
 use Rattle.std.proofs.lemmas.Result.{err_from_is_err_and}
 use Rattle.language.specs.Causes.{record_number_of, InRecords}
 use Rattle.language.specs.Refusals.{First}
-use Rattle.few.proofs.Pushing.{pushed, push_fits}
 use Rattle.few.specs.Held.{held}
 use Rattle.language.specs.declared.cause.RecordCause.{RecordCause}
 use Rattle.table.specs.declared.fault.Located.{Located}
 use Rattle.table.specs.Records.{Recorded}
 use Rattle.table.specs.Rows.{Missed, Decodes}
-use Rattle.table.proofs.Mapping.{mapped_ok, mapped_err}
-use Rattle.table.proofs.RecordLayer.{Sofar, more, first, done, no_table, counted}
+use Rattle.table.proofs.Mapping.{mapped_err}
+use Rattle.table.proofs.RecordLayer.{Sofar, first, done, no_table}
 use Rattle.table.proofs.records.check_records.Goals as goal
 
 pub returns-then-not-is_whole : goal.returns-then-not-is_whole
 returns-then-not-is_whole c = no_table c.args.bytes.now (λ w. false≢true (sym c.if-not-is_whole.true ∙ c.is_whole.ensures.1 w))
-
-pub unwrap-requires : goal.unwrap-requires
-unwrap-requires c =
-    let bs = c.args.bytes.now in
-    let whole = c.is_whole.ensures.0 c.if-not-is_whole.false in
-    let few = whole.1 in
-    let on = c.loop-place-test.true in
-    let long = c.as_chunks.ensures.front_len in
-    let count = counted c.as_chunks.result.0.now (held c.loop-place.records) c.loop-place.place-counter (omega arith) c.loop-place.invariant in
-    let room : length (held c.loop-place.records) < 256 = omega arith in
-    push_fits 256 (held c.loop-place.records) c.in_ok-made.made c.push.result (held c.push.new.self) room c.push.ensures
-
-pub loop-place-preserved : goal.loop-place-preserved
-loop-place-preserved c =
-    let rs = c.as_chunks.result.0.now in
-    let p = c.loop-place.place-counter in
-    let read = mapped_ok _ c.decode.result c.map_err.result c.in_ok-made.made c.map_err.ensures.cases c.in_ok-made.was in
-    let stands = subst (Decodes (get_or rs p [])) read c.decode.ensures.decodes in
-    subst (λ l. Sofar rs l (p + 1)) (sym (pushed 256 (held c.loop-place.records) c.in_ok-made.made c.push.result c.unwrap.result (held c.push.new.self) c.unwrap.ensures c.push.ensures))
-    (more rs (held c.loop-place.records) p c.in_ok-made.made c.loop-place-test.true stands c.loop-place.invariant)
 
 pub returns-in_err-made : goal.returns-in_err-made
 returns-in_err-made c =

@@ -5,12 +5,6 @@ use Rattle.continuation.proofs.machine.Machine.ask.Goals as goal
 use Rattle.continuation.specs.Machines.{configuration}
 use Rattle.continuation.specs.Programs.{records_in}
 
-pub overflow_add-self : goal.overflow_add-self
-overflow_add-self g c = let p = c.args.program.now in let l = few (records_in p) (formed p) (configuration c.args.self.now) _ c.requires.going in search rules
-
-pub catch-requires : goal.catch-requires
-catch-requires g c = let p = c.args.program.now in few (records_in p) (formed p) (configuration c.args.self.now) _ c.requires.going
-
 pub returns-in-Ok : goal.returns-in-Ok
 returns-in-Ok g c =
     let p = c.args.program.now in

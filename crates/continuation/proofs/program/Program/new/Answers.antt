@@ -21,8 +21,3 @@ unwrap-requires c =
     let h = held t (known_formed t c.args.table.formed) in
     room t _ c.translate_table.new.out c.translate_table.result c.translate_table.ensures (omega (arith, h.words, h.bytes))
 
-pub invariant_of-result : goal.invariant_of-result
-invariant_of-result c =
-    let t = records_of c.args.table in
-    let written = subst (Translates t _ c.translate_table.new.out) c.unwrap.ensures c.translate_table.ensures in
-    record { long = search rules; coded = ap (take (length (code t))) written.after ∙ take_at (code t) (drop (length (code t)) _) (length (code t)) refl; enters = ∣ c.entry_address-entry.ensures ∣₁ }

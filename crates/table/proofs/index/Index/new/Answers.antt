@@ -1,32 +1,11 @@
-use Rattle.std.proofs.Common.{◌<◌, length, get_or, ap, ◌∙◌, arith}
+use Rattle.std.proofs.Common.{get_or, ap, ◌∙◌}
 use Rattle.std.proofs.lemmas.Option.{slice_get-get_or}
 use Rattle.language.specs.declared.record.Record.TheVariants.{Routine}
-use Rattle.few.proofs.Pushing.{pushed, push_fits}
+use Rattle.few.proofs.Pushing.{pushed}
 use Rattle.few.specs.Held.{held}
-use Rattle.table.proofs.Indexing.{start, more_routine, more_block, more_body, room_routine, room_block, all_routines, all_blocks}
+use Rattle.table.proofs.Indexing.{more_routine, more_block, more_body}
 use Rattle.table.proofs.index.Index.new.Goals as goal
 use Rattle.table.proofs.index.Index.new.Goals.{in-Routine, in-Block, in-Body}
-
-pub loop-place-init : goal.loop-place-init
-loop-place-init c = start c.args.records.now _ _ _ c.nowhere-scope.ensures c.new-routines.ensures c.new-blocks.ensures
-
-pub unwrap-requires : goal.unwrap-requires
-unwrap-requires c =
-    let t = c.args.records.now in
-    let p = c.loop-place.place in
-    let d = Routine 0 0 0 in
-    let below = room_routine t p _ _ _ c.loop-place.invariant (get_or t p d) (slice_get-get_or t p d c.loop-place-test.true) _ c.at-scope.ensures _ _ _ c.in-Routine.is in
-    let room : length (held c.loop-place.routines) < 16 = omega (arith, c.requires.routines) in
-    push_fits 16 (held c.loop-place.routines) _ c.push.result (held c.push.new.self) room c.push.ensures
-
-pub unwrap-requires-in-Block : goal.unwrap-requires-in-Block
-unwrap-requires-in-Block c =
-    let t = c.args.records.now in
-    let p = c.loop-place.place in
-    let d = Routine 0 0 0 in
-    let below = room_block t p _ _ _ c.loop-place.invariant (get_or t p d) (slice_get-get_or t p d c.loop-place-test.true) _ c.at-scope.ensures _ _ c.in-Block.is in
-    let room : length (held c.loop-place.blocks) < 64 = omega (arith, c.requires.blocks) in
-    push_fits 64 (held c.loop-place.blocks) _ c.push-in-Block.result (held c.push-in-Block.new.self) room c.push-in-Block.ensures
 
 pub loop-place-preserved : goal.loop-place-preserved
 loop-place-preserved c =
@@ -45,11 +24,3 @@ loop-place-preserved c =
           (ap held w.blocks-is ∙ pushed 64 bs _ w.push-in-Block.result w.unwrap-in-Block.result (held w.push-in-Block.new.self) w.unwrap-in-Block.ensures w.push-in-Block.ensures)
       | in-Body w ↦ more_body t p _ _ _ c.loop-place.invariant (get_or t p d) on _ c.at-scope.ensures _ _ _ w.in-Body.is (ap held w.routines-is) (ap held w.blocks-is)
     ]
-
-pub returns : goal.returns
-returns c =
-    let t = c.args.records.now in
-    record {
-      routine_list = all_routines t _ _ _ _ c.loop-place.invariant c.loop-place-test.false;
-      block_list = all_blocks t _ _ _ _ c.loop-place.invariant c.loop-place-test.false;
-    }
