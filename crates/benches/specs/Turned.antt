@@ -11,7 +11,6 @@ use Rattle.bench.specs.Bounds.{feeder_count, full_turn}
 use Rattle.bench.specs.Ranges.{Site, Angle, Feeder, angle_at, below}
 use Rattle.bench.specs.Reading.{reading, read_under, part_under, spot_under, state_under}
 use Rattle.bench.specs.Respond.{Outcome, pick_into, place_on, drop_from, perform, attempt, respond}
-use Rattle.bench.specs.Responds.{Answer}
 use Rattle.bench.specs.SetUps.{TurnsBy}
 use Rattle.bench.specs.SetUps.TurnsBy.{shifted, refused}
 use Rattle.bench.specs.Sight.{Spot, sight}
@@ -81,10 +80,6 @@ sight_free z (Some p) seen e h =
     let small : p.angle.value < full_turn = p.angle.within in
     let out = below_none full_turn (pos (n % full_turn)) (ap (λ m. angle_at (int_rem m (pos full_turn))) (sym e) ∙ h) in
     absurd (elim out [ inl l ↦ omega (arith, ints, l) | inr l ↦ omega (arith, ints, l) ])
-
--- answers that are one number
-pub same_number : (a b : ℤ) → ◌≡◌ {A = Answer} (Ok a) (Ok b) → a ≡ b
-same_number a b e = cc
 
 -- a look answers the same below, of the spot there
 pub look_under : (z : Angle) (s : State) (op y : ℤ) (p : Site) → action_of op y ≡ Ok (Look p) →

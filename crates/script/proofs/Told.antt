@@ -3,7 +3,8 @@ use Rattle.std.proofs.Common.{◌≡◌, ℕ, List, None, Ok, Err, Option, Resul
 use Rattle.std.specs.Borrow.{Bor}
 use Rattle.std.specs.Fn.{FnOnceReturnsAt}
 use denote.Param.Members.{Once}
-use Rattle.script.specs.Fields.{Takes, Lacks, Told, Misses, wordless, silent}
+use Rattle.script.specs.Fields.{Takes, Lacks}
+use Rattle.script.specs.Told.{Told, Misses, wordless, silent}
 use Rattle.script.specs.Words.{Word, words}
 use Rattle.script.specs.declared.expected.Expected.{Expected}
 

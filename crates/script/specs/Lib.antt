@@ -3,6 +3,7 @@ pub mod Tables
 pub mod Numbers
 pub mod Names
 pub mod Fields
+pub mod Told
 pub mod Lines
 pub mod Blame
 pub mod Order

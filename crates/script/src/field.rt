@@ -1,6 +1,7 @@
 //! The fields of a line: what one word stands for, and the text after it.
 ghost use Rattle.std.specs.Prelude.{◌≡◌, [], MatchResult, ◌≢◌};
-ghost use Rattle.script.specs.Fields.{Takes, Lacks, Told, Misses};
+ghost use Rattle.script.specs.Fields.{Takes, Lacks};
+ghost use Rattle.script.specs.Told.{Told, Misses};
 ghost use Rattle.script.specs.Names.{Names};
 ghost use Rattle.script.specs.Numbers.{Writes};
 ghost use Rattle.script.specs.Tables.{HexIs};

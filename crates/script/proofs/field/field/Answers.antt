@@ -2,7 +2,7 @@ use Rattle.std.proofs.Common.{◌≡◌, [], ◌∷◌, None, Some, Err, Option,
 use Rattle.std.specs.Option.{ok_or}
 use Rattle.std.specs.Fn.{FnOnceReturnsAt}
 use Rattle.std.proofs.lemmas.Fn.{gave_at}
-use Rattle.script.specs.Fields.{Misses, wordless, silent}
+use Rattle.script.specs.Told.{Misses, wordless, silent}
 use Rattle.script.specs.Words.{words}
 use Rattle.script.proofs.Blame.{stopped}
 use Rattle.script.proofs.field.field.Goals as goal
