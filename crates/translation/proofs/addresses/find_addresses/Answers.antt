@@ -1,9 +1,9 @@
-use Rattle.std.proofs.Common.{◌+◌, ◌<◌, ◌≤◌, length, get_or, refl, arith, rules}
+use Rattle.std.proofs.Common.{◌+◌, ◌≤◌, get_or, arith, rules}
 use Rattle.std.proofs.lemmas.Option.{slice_get-get_or}
-use Rattle.few.proofs.Pushing.{pushed, push_fits}
+use Rattle.few.proofs.Pushing.{pushed}
 use Rattle.few.specs.Held.{held}
 use Rattle.language.specs.declared.record.Record.TheVariants.{Routine}
-use Rattle.translation.proofs.Collecting.{none_yet, one_more, room, all_known}
+use Rattle.translation.proofs.Collecting.{one_more, room, all_known}
 use Rattle.translation.proofs.addresses.find_addresses.Goals as goal
 
 pub overflow_add-words : goal.overflow_add-words

@@ -1,4 +1,4 @@
-use Rattle.std.proofs.Common.{ℕ, ◌+◌, ◌<◌, List, length, get_or, sym, ap, subst, add-one, arith, rules}
+use Rattle.std.proofs.Common.{ℕ, ◌+◌, ◌<◌, List, length, get_or, sym, ap, subst, add-one, arith}
 use Rattle.language.proofs.Props.{known_formed}
 use Rattle.language.specs.WellFormed.{WellFormed}
 use Rattle.translation.proofs.Starting.{entry_below, entry_is}
