@@ -1,34 +1,29 @@
 -- The rules and their function agree; so each request has exactly one response.
-use Rattle.std.proofs.Common.{◌≡◌, ℕ, zero, suc, ◌<◌, ◌≤◌, get_or, ℤ, pos, negsuc, Err, Option, sym, refl, ap, ◌∙◌, subst, inl, inr, arith}
+use Rattle.std.proofs.Common.{◌≡◌, ℕ, zero, suc, ◌≤◌, get_or, ℤ, pos, negsuc, Some, None, Ok, Err, Option, sym, refl, ap, ◌∙◌, subst, inl, inr, arith}
 use Rattle.std.proofs.lemmas.Int.{ints}
 use Rattle.bench.specs.Bounds.{site_count, feeder_count, full_turn}
-use Rattle.bench.specs.Ranges.{Outside, ranged, to_site, to_angle, to_feeder, site_at, angle_at, feeder_at}
+use Rattle.bench.specs.Ranges.{Site, Angle, Feeder, Outside, below_at, site_at, angle_at, feeder_at}
+use Rattle.bench.specs.Sight.{Spot}
 use Rattle.bench.specs.Actions.{on, numbered, action_of}
 use Rattle.bench.specs.Respond.{Outcome, pick_into, place_on, drop_from, perform, attempt, respond}
 use Rattle.bench.specs.Responds.{Answer, Responds}
 use Rattle.bench.specs.Responds.Responds.{moves, moves_nowhere, turns, turns_nowhere, picks, picks_nowhere, picks_twice, picks_none, places, places_none, places_twice, looks, looks_nowhere, drops, drops_none, unknown}
-use Rattle.bench.specs.Laws.{OneResponse, RespondResponds, FaultKeeps}
+use Rattle.bench.specs.Laws.{OneResponse, RespondResponds, FaultKeeps, AskedFor}
 use Rattle.bench.specs.declared.action.Action.{Action}
-use Rattle.bench.specs.declared.action.Action.TheVariants.{Move, Turn, Pick, Look}
+use Rattle.bench.specs.declared.action.Action.TheVariants.{Move, Turn, Pick, Place, Look, Discard}
 use Rattle.bench.specs.declared.fault.Fault.{Fault}
 use Rattle.bench.specs.declared.fault.Fault.TheVariants.{NoOperation, NoSite, NoAngle, NoFeeder}
-use Rattle.bench.specs.declared.angle.Angle.{Angle}
-use Rattle.bench.specs.declared.feeder.Feeder.{Feeder}
-use Rattle.bench.specs.declared.nozzle.Nozzle.{Nozzle}
-use Rattle.bench.specs.declared.nozzle.Nozzle.TheVariants.{Empty, Holding}
-use Rattle.bench.specs.declared.site.Site.{Site}
-use Rattle.bench.specs.declared.spot.Spot.{Spot}
-use Rattle.bench.specs.declared.spot.Spot.TheVariants.{Free, Taken}
 use Rattle.bench.specs.declared.state.State.{State}
-use Rattle.bench.proofs.Ranges.{ranged_in, ranged_out, Ranging, ranging}
+use Rattle.bench.specs.declared.below.Below.{Below}
+use Rattle.bench.proofs.Ranges.{below_in, below_out, Ranging, ranging}
 use Rattle.bench.proofs.Ranges.Ranging.{inside, outside}
 
 -- a request whose number is in range is tried; one whose number is not gets its fault
-attempt_in : {X : Type 0} (s : State) (act : X → Action) (e : Fault) (n : ℕ) (f : (k : ℕ) → k < n → X) (k : ℕ) (h : k < n) → attempt s (on act e (ranged n f (pos k))) ≡ perform s (act (f k h))
-attempt_in s act e n f k h = ap (λ o. attempt s (on act e o)) (sym (ranged_in n f k h))
+attempt_in : (s : State) (n : ℕ) (act : Below n → Action) (e : Fault) (x : Below n) → attempt s (on act e (below_at n (pos x.value))) ≡ perform s (act x)
+attempt_in s n act e x = ap (λ o. attempt s (on act e o)) (sym (below_in n x.value x.within))
 
-attempt_out : {X : Type 0} (s : State) (act : X → Action) (e : Fault) (n : ℕ) (f : (k : ℕ) → k < n → X) (y : ℤ) → Outside n y → attempt s (on act e (ranged n f y)) ≡ (Err e, s)
-attempt_out s act e n f y h = ap (λ o. attempt s (on act e o)) (ranged_out n f y h)
+attempt_out : (s : State) (n : ℕ) (act : Below n → Action) (e : Fault) (y : ℤ) → Outside n y → attempt s (on act e (below_at n y)) ≡ (Err e, s)
+attempt_out s n act e y h = ap (λ o. attempt s (on act e o)) (below_out n y h)
 
 six : (m : ℕ) (y : ℤ) → 6 ≤ m → numbered m y ≡ Err NoOperation
 six zero y k = absurd (omega arith)
@@ -46,19 +41,19 @@ no_action (pos n) y (inr h) = six n y (omega (arith, ints, h))
 
 -- what a rule says, the function says
 pub by_rule : (s : State) (op y : ℤ) (r : Answer) (t : State) → Responds s op y r t → respond s op y ≡ (r, t)
-by_rule s op y r t (moves p) = attempt_in s Move NoSite site_count to_site p.index p.within
-by_rule s op y r t (moves_nowhere h) = attempt_out s Move NoSite site_count to_site y h
-by_rule s op y r t (turns a) = attempt_in s Turn NoAngle full_turn to_angle a.hundredths a.within
-by_rule s op y r t (turns_nowhere h) = attempt_out s Turn NoAngle full_turn to_angle y h
-by_rule s op y r t (picks f e c) = attempt_in s Pick NoFeeder feeder_count to_feeder f.index f.within ∙ cc
-by_rule s op y r t (picks_nowhere h) = attempt_out s Pick NoFeeder feeder_count to_feeder y h
-by_rule s op y r t (picks_twice f e) = attempt_in s Pick NoFeeder feeder_count to_feeder f.index f.within ∙ cc
-by_rule s op y r t (picks_none f e c) = attempt_in s Pick NoFeeder feeder_count to_feeder f.index f.within ∙ cc
+by_rule s op y r t (moves p) = attempt_in s site_count Move NoSite p
+by_rule s op y r t (moves_nowhere h) = attempt_out s site_count Move NoSite y h
+by_rule s op y r t (turns a) = attempt_in s full_turn Turn NoAngle a
+by_rule s op y r t (turns_nowhere h) = attempt_out s full_turn Turn NoAngle y h
+by_rule s op y r t (picks f e c) = attempt_in s feeder_count Pick NoFeeder f ∙ cc
+by_rule s op y r t (picks_nowhere h) = attempt_out s feeder_count Pick NoFeeder y h
+by_rule s op y r t (picks_twice f e) = attempt_in s feeder_count Pick NoFeeder f ∙ cc
+by_rule s op y r t (picks_none f e c) = attempt_in s feeder_count Pick NoFeeder f ∙ cc
 by_rule s op y r t (places e c) = cc
 by_rule s op y r t (places_none e) = cc
 by_rule s op y r t (places_twice e c) = cc
-by_rule s op y r t (looks p) = attempt_in s Look NoSite site_count to_site p.index p.within
-by_rule s op y r t (looks_nowhere h) = attempt_out s Look NoSite site_count to_site y h
+by_rule s op y r t (looks p) = attempt_in s site_count Look NoSite p
+by_rule s op y r t (looks_nowhere h) = attempt_out s site_count Look NoSite y h
 by_rule s op y r t (drops e) = cc
 by_rule s op y r t (drops_none e) = cc
 by_rule s op y r t (unknown h) = ap (attempt s) (no_action op y h)
@@ -66,42 +61,42 @@ by_rule s op y r t (unknown h) = ap (attempt s) (no_action op y h)
 abbrev Follows : State → ℤ → ℤ → Outcome → Type 0
 Follows s op y o = Responds s op y o.0 o.1
 
-move_follows : (s : State) (y : ℤ) (o : Option Site) → Ranging site_count to_site y o → Follows s (pos 0) y (attempt s (on Move NoSite o))
-move_follows s y o (inside k h) = moves (to_site k h)
+move_follows : (s : State) (y : ℤ) (o : Option Site) → Ranging site_count y o → Follows s (pos 0) y (attempt s (on Move NoSite o))
+move_follows s y o (inside p) = moves p
 move_follows s y o (outside h) = moves_nowhere h
 
-turn_follows : (s : State) (y : ℤ) (o : Option Angle) → Ranging full_turn to_angle y o → Follows s (pos 1) y (attempt s (on Turn NoAngle o))
-turn_follows s y o (inside k h) = turns (to_angle k h)
+turn_follows : (s : State) (y : ℤ) (o : Option Angle) → Ranging full_turn y o → Follows s (pos 1) y (attempt s (on Turn NoAngle o))
+turn_follows s y o (inside a) = turns a
 turn_follows s y o (outside h) = turns_nowhere h
 
-pick_into_follows : (s : State) (f : Feeder) (z : Nozzle) (n : ℕ) → s.nozzle ≡ z → get_or s.counts f.index 0 ≡ n → Follows s (pos 2) (pos f.index) (pick_into s f z n)
-pick_into_follows s f (Holding g) n e c = picks_twice f e
-pick_into_follows s f Empty zero e c = picks_none f e c
-pick_into_follows s f Empty (suc n) e c = picks f e c
+pick_into_follows : (s : State) (f : Feeder) (z : Option Feeder) (n : ℕ) → s.nozzle ≡ z → get_or s.counts f.value 0 ≡ n → Follows s (pos 2) (pos f.value) (pick_into s f z n)
+pick_into_follows s f (Some g) n e c = picks_twice f e
+pick_into_follows s f None zero e c = picks_none f e c
+pick_into_follows s f None (suc n) e c = picks f e c
 
-pick_follows : (s : State) (y : ℤ) (o : Option Feeder) → Ranging feeder_count to_feeder y o → Follows s (pos 2) y (attempt s (on Pick NoFeeder o))
-pick_follows s y o (inside k h) = pick_into_follows s (to_feeder k h) s.nozzle (get_or s.counts k 0) refl refl
+pick_follows : (s : State) (y : ℤ) (o : Option Feeder) → Ranging feeder_count y o → Follows s (pos 2) y (attempt s (on Pick NoFeeder o))
+pick_follows s y o (inside f) = pick_into_follows s f s.nozzle (get_or s.counts f.value 0) refl refl
 pick_follows s y o (outside h) = picks_nowhere h
 
-place_follows : (s : State) (y : ℤ) (z : Nozzle) (p : Spot) → s.nozzle ≡ z → get_or s.sites s.site.index Free ≡ p → Follows s (pos 3) y (place_on s z p)
-place_follows s y Empty p e c = places_none e
-place_follows s y (Holding f) (Taken g a) e c = places_twice e c
-place_follows s y (Holding f) Free e c = places e c
+place_follows : (s : State) (y : ℤ) (z : Option Feeder) (p : Spot) → s.nozzle ≡ z → get_or s.sites s.site.value None ≡ p → Follows s (pos 3) y (place_on s z p)
+place_follows s y None p e c = places_none e
+place_follows s y (Some f) (Some q) e c = places_twice e c
+place_follows s y (Some f) None e c = places e c
 
-look_follows : (s : State) (y : ℤ) (o : Option Site) → Ranging site_count to_site y o → Follows s (pos 4) y (attempt s (on Look NoSite o))
-look_follows s y o (inside k h) = looks (to_site k h)
+look_follows : (s : State) (y : ℤ) (o : Option Site) → Ranging site_count y o → Follows s (pos 4) y (attempt s (on Look NoSite o))
+look_follows s y o (inside p) = looks p
 look_follows s y o (outside h) = looks_nowhere h
 
-drop_follows : (s : State) (y : ℤ) (z : Nozzle) → s.nozzle ≡ z → Follows s (pos 5) y (drop_from s z)
-drop_follows s y Empty e = drops_none e
-drop_follows s y (Holding f) e = drops e
+drop_follows : (s : State) (y : ℤ) (z : Option Feeder) → s.nozzle ≡ z → Follows s (pos 5) y (drop_from s z)
+drop_follows s y None e = drops_none e
+drop_follows s y (Some f) e = drops e
 
 operation_follows : (s : State) (n : ℕ) (y : ℤ) → Follows s (pos n) y (attempt s (numbered n y))
-operation_follows s zero y = move_follows s y (site_at y) (ranging site_count to_site y)
-operation_follows s (suc zero) y = turn_follows s y (angle_at y) (ranging full_turn to_angle y)
-operation_follows s (suc (suc zero)) y = pick_follows s y (feeder_at y) (ranging feeder_count to_feeder y)
-operation_follows s (suc (suc (suc zero))) y = place_follows s y s.nozzle (get_or s.sites s.site.index Free) refl refl
-operation_follows s (suc (suc (suc (suc zero)))) y = look_follows s y (site_at y) (ranging site_count to_site y)
+operation_follows s zero y = move_follows s y (site_at y) (ranging site_count y)
+operation_follows s (suc zero) y = turn_follows s y (angle_at y) (ranging full_turn y)
+operation_follows s (suc (suc zero)) y = pick_follows s y (feeder_at y) (ranging feeder_count y)
+operation_follows s (suc (suc (suc zero))) y = place_follows s y s.nozzle (get_or s.sites s.site.value None) refl refl
+operation_follows s (suc (suc (suc (suc zero)))) y = look_follows s y (site_at y) (ranging site_count y)
 operation_follows s (suc (suc (suc (suc (suc zero))))) y = drop_follows s y s.nozzle refl
 operation_follows s (suc (suc (suc (suc (suc (suc n)))))) y = unknown (inr (omega (arith, ints)))
 
@@ -134,3 +129,15 @@ fault_keeps s op y f t (places_twice e c) = refl
 fault_keeps s op y f t (looks_nowhere h) = refl
 fault_keeps s op y f t (drops_none e) = refl
 fault_keeps s op y f t (unknown h) = refl
+
+-- the request for an action asks for it
+asked_in : (n : ℕ) (act : Below n → Action) (e : Fault) (x : Below n) → on act e (below_at n (pos x.value)) ≡ Ok (act x)
+asked_in n act e x = ap (on act e) (sym (below_in n x.value x.within))
+
+pub asked_for : AskedFor
+asked_for (Move p) = asked_in site_count Move NoSite p
+asked_for (Turn a) = asked_in full_turn Turn NoAngle a
+asked_for (Pick f) = asked_in feeder_count Pick NoFeeder f
+asked_for Place = refl
+asked_for (Look p) = asked_in site_count Look NoSite p
+asked_for Discard = refl

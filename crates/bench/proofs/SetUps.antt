@@ -5,18 +5,17 @@ use Rattle.std.proofs.lemmas.Int.{ints}
 use Rattle.std.proofs.lemmas.Bool.{cases_lt}
 use Rattle.bench.specs.Bounds.{feeder_count, most_in_feeder, full_turn}
 use Rattle.bench.specs.Laws.{OneSetUp, OneTurn}
-use Rattle.bench.specs.Ranges.{Outside, to_angle, angle_at}
+use Rattle.bench.specs.Ranges.{Angle, Outside, below, angle_at}
 use Rattle.bench.specs.SetUps.{SetsUp, TurnsBy}
 use Rattle.bench.specs.SetUps.SetsUp.{taken_over, refused}
 use Rattle.bench.specs.SetUps.TurnsBy.{shifted, refused as unturned}
 use Rattle.bench.specs.States.{fresh}
-use Rattle.bench.specs.declared.angle.Angle.{Angle}
 use Rattle.bench.specs.declared.refusal.SetUpRefusal.{SetUpRefusal}
 use Rattle.bench.specs.declared.refusal.SetUpRefusal.TheVariants.{CountOutOfRange}
 use Rattle.bench.specs.declared.refusal.ShiftRefusal.{ShiftRefusal}
 use Rattle.bench.specs.declared.refusal.ShiftRefusal.TheVariants.{ShiftOutOfRange}
 use Rattle.bench.specs.declared.state.State.{State}
-use Rattle.bench.proofs.Ranges.{Ranging, ranging, ranged_in, ranged_out}
+use Rattle.bench.proofs.Ranges.{Ranging, ranging, below_in, below_out}
 use Rattle.bench.proofs.Ranges.Ranging.{inside, outside}
 
 abbrev pub Setting : Type 0
@@ -79,18 +78,18 @@ Turning = Result (Unit {0}) ShiftRefusal × Angle
 -- the outcome of a turn, by what the number is
 abbrev turning : Option Angle → Turning
 turning (Some a) = (Ok tt, a)
-turning None = (Err ShiftOutOfRange, to_angle 0 (omega arith))
+turning None = (Err ShiftOutOfRange, below full_turn 0 (omega arith))
 
 by_turn : (z : ℤ) (r : Result (Unit {0}) ShiftRefusal) (a : Angle) → TurnsBy z r a → (r, a) ≡ turning (angle_at z)
-by_turn z r a (shifted b) = ap turning (ranged_in full_turn to_angle b.hundredths b.within)
-by_turn z r a (unturned h) = ap turning (sym (ranged_out full_turn to_angle z h))
+by_turn z r a (shifted b) = ap turning (below_in full_turn b.value b.within)
+by_turn z r a (unturned h) = ap turning (sym (below_out full_turn z h))
 
-some_turn : (z : ℤ) (o : Option Angle) → Ranging full_turn to_angle z o → TurnsBy z (turning o).0 (turning o).1
-some_turn z o (inside k h) = shifted (to_angle k h)
+some_turn : (z : ℤ) (o : Option Angle) → Ranging full_turn z o → TurnsBy z (turning o).0 (turning o).1
+some_turn z o (inside a) = shifted a
 some_turn z o (outside h) = unturned h
 
 pub one_turn : OneTurn
-one_turn z = (turning (angle_at z), some_turn z (angle_at z) (ranging full_turn to_angle z), λ o h. by_turn z o.0 o.1 h)
+one_turn z = (turning (angle_at z), some_turn z (angle_at z) (ranging full_turn z), λ o h. by_turn z o.0 o.1 h)
 
 pub same_turn : (z : ℤ) (o p : Turning) → TurnsBy z o.0 o.1 → TurnsBy z p.0 p.1 → p ≡ o
 same_turn z o p a b = by_turn z p.0 p.1 b ∙ sym (by_turn z o.0 o.1 a)

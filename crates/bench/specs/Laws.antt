@@ -1,12 +1,14 @@
 -- What is claimed of the rules of a bench.
-use Rattle.std.specs.Prelude.{◌≡◌, List, length, ℤ, Err, Result}
+use Rattle.std.specs.Prelude.{◌≡◌, List, length, ℤ, Ok, Err, Result}
+use Rattle.bench.specs.Actions.{action_of, request_of}
 use Rattle.bench.specs.Bounds.{feeder_count}
+use Rattle.bench.specs.Ranges.{Angle}
 use Rattle.bench.specs.Reading.{reading, read_under}
 use Rattle.bench.specs.Respond.{Outcome, respond}
 use Rattle.bench.specs.Responds.{Answer, Responds}
 use Rattle.bench.specs.SetUps.{SetsUp, TurnsBy}
 use Rattle.bench.specs.States.{Valid}
-use Rattle.bench.specs.declared.angle.Angle.{Angle}
+use Rattle.bench.specs.declared.action.Action.{Action}
 use Rattle.bench.specs.declared.fault.Fault.{Fault}
 use Rattle.bench.specs.declared.refusal.SetUpRefusal.{SetUpRefusal}
 use Rattle.bench.specs.declared.refusal.ShiftRefusal.{ShiftRefusal}
@@ -31,6 +33,10 @@ StaysValid = (s : State) (op y : ℤ) (r : Answer) (t : State) → Valid s → R
 -- a fault changes nothing
 abbrev pub FaultKeeps : Type 0
 FaultKeeps = (s : State) (op y : ℤ) (f : Fault) (t : State) → Responds s op y (Err f) t → t ≡ s
+
+-- the request for an action asks for that action
+abbrev pub AskedFor : Type 0
+AskedFor = (act : Action) → action_of (request_of act).operation (request_of act).number ≡ Ok act
 
 -- a set-up with eight counts, and a turn by a number, has exactly one outcome
 abbrev pub OneSetUp : Type 0

@@ -2,9 +2,8 @@
 use Rattle.std.specs.Prelude.{◌≡◌, ℕ, ◌+◌, ◌<◌, ◌≤◌, List, map, replicate, ℤ, pos, Ok, Err, Result, slice_index, slice_index_or}
 use Rattle.std.proofs.Common.{arith}
 use Rattle.bench.specs.Bounds.{feeder_count, most_in_feeder, full_turn}
-use Rattle.bench.specs.Ranges.{Outside, to_angle}
+use Rattle.bench.specs.Ranges.{Angle, Outside, below}
 use Rattle.bench.specs.States.{fresh}
-use Rattle.bench.specs.declared.angle.Angle.{Angle}
 use Rattle.bench.specs.declared.refusal.SetUpRefusal.{SetUpRefusal}
 use Rattle.bench.specs.declared.refusal.SetUpRefusal.TheVariants.{CountOutOfRange}
 use Rattle.bench.specs.declared.refusal.ShiftRefusal.{ShiftRefusal}
@@ -21,6 +20,6 @@ pub data SetsUp (counts : List ℤ) : Result (Unit {0}) SetUpRefusal → State �
 -- turning a bench by a number: what is answered, and the shift of the turned bench made
 pub data TurnsBy : ℤ → Result (Unit {0}) ShiftRefusal → Angle → Type 0 where
   -- an angle is a shift
-  shifted : (a : Angle) → TurnsBy (pos a.hundredths) (Ok tt) a
+  shifted : (a : Angle) → TurnsBy (pos a.value) (Ok tt) a
   -- any other number is refused, and the shift is then 0
-  refused : {z : ℤ} → Outside full_turn z → TurnsBy z (Err ShiftOutOfRange) (to_angle 0 (omega arith))
+  refused : {z : ℤ} → Outside full_turn z → TurnsBy z (Err ShiftOutOfRange) (below full_turn 0 (omega arith))

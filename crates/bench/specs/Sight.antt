@@ -1,14 +1,16 @@
--- What a look at a spot answers.
-use Rattle.std.specs.Prelude.{◌+◌, ◌*◌, Bool, true, false, ℤ, pos, negsuc}
+-- What is at a site, a part or nothing, and what a look there answers.
+use Rattle.std.specs.Prelude.{◌+◌, ◌*◌, ℤ, pos, negsuc, Some, None, Option}
 use Rattle.bench.specs.Bounds.{full_turn}
-use Rattle.bench.specs.declared.spot.Spot.{Spot}
-use Rattle.bench.specs.declared.spot.Spot.TheVariants.{Free, Taken}
+use Rattle.bench.specs.declared.part.Part.{Part}
 
-abbrev pub taken : Spot → Bool
-taken Free = false
-taken (Taken f a) = true
+abbrev pub Spot : Type 0
+Spot = Option Part
 
--- -1 where there is no part, else feeder times a full turn plus angle
+-- feeder times a full turn plus angle
+abbrev pub part_sight : Part → ℤ
+part_sight p = pos (p.feeder.value * full_turn + p.angle.value)
+
+-- -1 where there is no part
 abbrev pub sight : Spot → ℤ
-sight Free = negsuc 0
-sight (Taken f a) = pos (f.index * full_turn + a.hundredths)
+sight None = negsuc 0
+sight (Some p) = part_sight p

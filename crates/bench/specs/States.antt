@@ -1,27 +1,21 @@
 -- The state that a bench stands for, and when it is valid. The record itself is the code's `State`:
--- a site, an angle, a nozzle, a list of counts, the parts dropped, and a list of spots. Sites, angles
--- and feeders are in range by their types.
-use Rattle.std.specs.Prelude.{◌≡◌, ℕ, ◌+◌, ◌<◌, ◌≤◌, List, length, replicate, sum_by, sum, slice_index, slice_set}
+-- a site, an angle, the feeder of the part that the nozzle holds, a list of counts, the parts dropped,
+-- and a list of spots. Sites, angles and feeders are in range by their types.
+use Rattle.std.specs.Prelude.{◌≡◌, ℕ, ◌+◌, ◌<◌, ◌≤◌, List, length, Some, None, Option, replicate, sum_by, sum, slice_index, slice_set}
 use Rattle.std.proofs.Common.{arith}
-use Rattle.bench.specs.Bounds.{site_count, feeder_count, most_in_feeder, most_parts}
-use Rattle.bench.specs.Ranges.{to_site, to_angle}
-use Rattle.bench.specs.declared.angle.Angle.{Angle}
-use Rattle.bench.specs.declared.feeder.Feeder.{Feeder}
-use Rattle.bench.specs.declared.nozzle.Nozzle.{Nozzle}
-use Rattle.bench.specs.declared.nozzle.Nozzle.TheVariants.{Empty, Holding}
-use Rattle.bench.specs.declared.site.Site.{Site}
-use Rattle.bench.specs.declared.spot.Spot.{Spot}
-use Rattle.bench.specs.declared.spot.Spot.TheVariants.{Free, Taken}
+use Rattle.bench.specs.Bounds.{site_count, feeder_count, most_in_feeder, most_parts, full_turn}
+use Rattle.bench.specs.Ranges.{Site, Angle, Feeder, below}
+use Rattle.bench.specs.Sight.{Spot}
 use Rattle.bench.specs.declared.state.State.{State}
 
 -- the parts in a nozzle, and on a spot
-abbrev pub in_nozzle : Nozzle → ℕ
-in_nozzle Empty = 0
-in_nozzle (Holding f) = 1
+abbrev pub in_nozzle : Option Feeder → ℕ
+in_nozzle None = 0
+in_nozzle (Some f) = 1
 
 abbrev pub on_spot : Spot → ℕ
-on_spot Free = 0
-on_spot (Taken f a) = 1
+on_spot None = 0
+on_spot (Some p) = 1
 
 -- all parts of a bench: in the feeders, in the nozzle, on the sites, and dropped
 abbrev pub parts : State → ℕ
@@ -38,7 +32,7 @@ pub record Valid (s : State) : Type 0 where
 
 -- a new bench with these counts: site 0, angle 0, nothing held, placed or dropped
 abbrev pub fresh : List ℕ → State
-fresh counts = record { site = to_site 0 (omega arith); angle = to_angle 0 (omega arith); nozzle = Empty; counts = counts; bin = 0; sites = replicate site_count Free }
+fresh counts = record { site = below site_count 0 (omega arith); angle = below full_turn 0 (omega arith); nozzle = None; counts = counts; bin = 0; sites = replicate site_count None }
 
 -- the head over another site
 abbrev pub at_site : State → Site → State
@@ -50,12 +44,12 @@ at_angle s a = record { site = s.site; angle = a; nozzle = s.nozzle; counts = s.
 
 -- a part of feeder f in the nozzle, n left in the feeder
 abbrev pub picked : State → Feeder → ℕ → State
-picked s f n = record { site = s.site; angle = s.angle; nozzle = Holding f; counts = slice_set s.counts f.index n; bin = s.bin; sites = s.sites }
+picked s f n = record { site = s.site; angle = s.angle; nozzle = Some f; counts = slice_set s.counts f.value n; bin = s.bin; sites = s.sites }
 
 -- the part of feeder f on the current site, at the current angle
 abbrev pub placed : State → Feeder → State
-placed s f = record { site = s.site; angle = s.angle; nozzle = Empty; counts = s.counts; bin = s.bin; sites = slice_set s.sites s.site.index (Taken f s.angle) }
+placed s f = record { site = s.site; angle = s.angle; nozzle = None; counts = s.counts; bin = s.bin; sites = slice_set s.sites s.site.value (Some (record { feeder = f; angle = s.angle })) }
 
 -- the part that was held in the bin
 abbrev pub dropped : State → State
-dropped s = record { site = s.site; angle = s.angle; nozzle = Empty; counts = s.counts; bin = s.bin + 1; sites = s.sites }
+dropped s = record { site = s.site; angle = s.angle; nozzle = None; counts = s.counts; bin = s.bin + 1; sites = s.sites }

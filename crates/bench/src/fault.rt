@@ -5,21 +5,21 @@ ghost use Rattle.bench.specs.Numbers.{fault_number};
 #[derive(Clone, Copy, PartialEq, Eq, Debug)]
 pub enum Fault {
     /// There is no such operation.
-    NoOperation,
+    NoOperation = 40,
     /// The number is no site.
-    NoSite,
+    NoSite = 41,
     /// The number is no angle.
-    NoAngle,
+    NoAngle = 42,
     /// The number is no feeder.
-    NoFeeder,
+    NoFeeder = 43,
     /// A pick, and the nozzle holds a part.
-    NozzleFull,
+    NozzleFull = 44,
     /// A pick, and the feeder has no part left.
-    FeederEmpty,
+    FeederEmpty = 45,
     /// A place or a drop, and the nozzle holds no part.
-    NozzleEmpty,
+    NozzleEmpty = 46,
     /// A place, and the site has a part.
-    SiteTaken,
+    SiteTaken = 47,
 }
 
 impl Fault {
@@ -27,15 +27,6 @@ impl Fault {
     pub fn number(self) -> i32
         ensures { result ≡ fault_number self }
     {
-        match self {
-            Fault::NoOperation => 40,
-            Fault::NoSite => 41,
-            Fault::NoAngle => 42,
-            Fault::NoFeeder => 43,
-            Fault::NozzleFull => 44,
-            Fault::FeederEmpty => 45,
-            Fault::NozzleEmpty => 46,
-            Fault::SiteTaken => 47,
-        }
+        self as i32
     }
 }

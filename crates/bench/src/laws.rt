@@ -1,12 +1,13 @@
-ghost use Rattle.bench.specs.Laws.{OneResponse, RespondResponds, StaysValid, FaultKeeps, OneSetUp, OneTurn, ReadTwice, WorkedReading};
+ghost use Rattle.bench.specs.Laws.{OneResponse, RespondResponds, StaysValid, FaultKeeps, AskedFor, OneSetUp, OneTurn, ReadTwice, WorkedReading};
 
 /// The request rules are sound: each request has exactly one answer and one state left, a valid
-/// state is left valid, and a fault changes nothing.
+/// state is left valid, and a fault changes nothing. The request for an action asks for that action.
 pub fn rules_are_sound() -> bool
     ensures one { OneResponse }
     ensures function { RespondResponds }
     ensures valid { StaysValid }
     ensures fault { FaultKeeps }
+    ensures asked { AskedFor }
 {
     true
 }

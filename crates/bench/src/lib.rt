@@ -3,26 +3,25 @@
 #![tactic(auto)]
 
 pub mod action;
-pub mod angle;
+pub mod below;
 pub mod bench;
 pub mod fault;
-pub mod feeder;
 pub mod laws;
-pub mod nozzle;
+pub mod part;
 pub mod refusal;
 pub mod request;
-pub mod site;
 pub mod spot;
 pub mod state;
 
 pub use action::Action;
-pub use angle::Angle;
+pub use below::Below;
+pub use below::angle::{Angle, FULL_TURN};
+pub use below::feeder::Feeder;
+pub use below::site::Site;
 pub use bench::Bench;
 pub use fault::Fault;
-pub use feeder::Feeder;
-pub use nozzle::Nozzle;
+pub use part::Part;
 pub use refusal::{SetUpRefusal, ShiftRefusal};
 pub use request::Request;
-pub use site::Site;
 pub use spot::Spot;
 pub use state::State;

@@ -5,7 +5,7 @@ ghost use Rattle.bench.specs.Numbers.{set_up_number, shift_number};
 #[derive(Clone, Copy, PartialEq, Eq, Debug)]
 pub enum SetUpRefusal {
     /// A count is below 0 or above 999.
-    CountOutOfRange,
+    CountOutOfRange = 48,
 }
 
 impl SetUpRefusal {
@@ -13,9 +13,7 @@ impl SetUpRefusal {
     pub fn number(self) -> i32
         ensures { result ≡ set_up_number self }
     {
-        match self {
-            SetUpRefusal::CountOutOfRange => 48,
-        }
+        self as i32
     }
 }
 
@@ -23,7 +21,7 @@ impl SetUpRefusal {
 #[derive(Clone, Copy, PartialEq, Eq, Debug)]
 pub enum ShiftRefusal {
     /// The shift is below 0, or a full turn or more.
-    ShiftOutOfRange,
+    ShiftOutOfRange = 49,
 }
 
 impl ShiftRefusal {
@@ -31,8 +29,6 @@ impl ShiftRefusal {
     pub fn number(self) -> i32
         ensures { result ≡ shift_number self }
     {
-        match self {
-            ShiftRefusal::ShiftOutOfRange => 49,
-        }
+        self as i32
     }
 }

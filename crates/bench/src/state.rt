@@ -1,19 +1,21 @@
 ghost use Rattle.std.specs.Prelude.{◌≡◌};
 ghost use Rattle.bench.specs.Reading.{state_under};
 
-use super::angle::Angle;
-use super::nozzle::Nozzle;
-use super::site::Site;
+use super::below::angle::Angle;
+use super::below::feeder::Feeder;
+use super::below::site::Site;
+use super::spot;
 use super::spot::Spot;
 
 /// The state that a bench stands for, however the bench keeps it.
-#[derive(Clone, Copy)]
+#[derive(Clone, Copy, PartialEq, Eq, Debug)]
 pub struct State {
     /// Over which site the head stands.
     pub site: Site,
     /// The angle of the nozzle.
     pub angle: Angle,
-    pub nozzle: Nozzle,
+    /// The feeder of the part in the nozzle, if it holds one.
+    pub nozzle: Option<Feeder>,
     /// The parts left in each feeder.
     pub counts: [u16; 8],
     /// The parts dropped.
@@ -27,18 +29,10 @@ impl State {
     pub fn read_under(self, shift: Angle) -> State
         ensures { result ≡ state_under shift self }
     {
-        let counts = self.counts;
-        let mut sites = self.sites;
-        for spot in sites.iter_mut() {
-            *spot = spot.read_under(shift);
-        }
         State {
-            site: self.site,
             angle: self.angle.read_under(shift),
-            nozzle: self.nozzle,
-            counts,
-            bin: self.bin,
-            sites,
+            sites: self.sites.map(|spot| spot::read_under(spot, shift)),
+            ..self
         }
     }
 }

@@ -1,1 +1,2 @@
 pub mod SetUp
+pub mod Found

@@ -1,10 +1,8 @@
-ghost use Rattle.std.specs.Prelude.{◌≡◌, length, replicate};
+ghost use Rattle.std.specs.Prelude.{◌≡◌, length};
 ghost use Rattle.bench.specs.Bounds.{site_count};
-ghost use Rattle.bench.specs.declared.spot.Spot.TheVariants.{Free};
-ghost use Rattle.std.proofs.Common.{rules, arith};
 
 use super::sites::Sites;
-use bench::{Angle, Feeder, Site, Spot};
+use bench::{Part, Site, Spot};
 
 /// Placements as one entry for each site.
 #[derive(Clone, Copy)]
@@ -13,27 +11,21 @@ pub struct Entries {
     ghost all: { length spots ≡ site_count },
 }
 
-impl Entries {
-    pub fn new() -> Entries
-        ensures { result.spots ≡ replicate site_count Free }
-    {
-        Entries {
-            spots: [Spot::Free; 32],
-        }
-    }
-}
-
 impl Sites for Entries {
     ghost spots = { λ e. e.spots };
 
-    ghost all = { first_of (Prim.search rules, Prim.grind (arith, Self.row.coded.inj)) };
+    ghost all = { λ e. e.all };
 
-    fn at(&self, site: Site) -> Spot {
-        self.spots[site.index() as usize]
+    fn new() -> Entries {
+        Entries { spots: [None; 32] }
     }
 
-    fn put(&mut self, site: Site, feeder: Feeder, angle: Angle) {
-        self.spots[site.index() as usize] = Spot::Taken { feeder, angle };
+    fn at(&self, site: Site) -> Spot {
+        self.spots[site.get() as usize]
+    }
+
+    fn put(&mut self, site: Site, part: Part) {
+        self.spots[site.get() as usize] = Some(part);
     }
 
     fn list(&self) -> [Spot; 32] {

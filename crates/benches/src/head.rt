@@ -1,8 +1,9 @@
 ghost use Rattle.std.specs.Prelude.{◌≡◌, ℕ, ◌<◌, ◌≤◌, length, slice_index};
 ghost use Rattle.bench.specs.Bounds.{feeder_count, most_in_feeder};
 
-use bench::{Angle, Nozzle, Site};
+use bench::{Angle, Feeder, Site};
 
+mod parts;
 mod serve;
 mod set_up;
 
@@ -11,7 +12,7 @@ mod set_up;
 pub struct Head {
     pub site: Site,
     pub angle: Angle,
-    pub nozzle: Nozzle,
+    pub nozzle: Option<Feeder>,
     pub counts: [u16; 8],
     pub bin: u16,
     ghost eight: { length counts ≡ feeder_count },

@@ -1,9 +1,10 @@
-ghost use Rattle.std.specs.Prelude.{◌≡◌, ◌≤◌, length, sum_by};
-ghost use Rattle.bench.specs.Bounds.{site_count};
+ghost use Rattle.std.specs.Prelude.{◌≡◌, length, sum_by};
 ghost use Rattle.bench.specs.States.{on_spot};
 ghost use Rattle.benches.specs.Laid.{after};
+ghost use Rattle.few.specs.Held.{held};
 
 use super::placement::Placement;
+use few::Few;
 
 mod record;
 
@@ -11,9 +12,6 @@ mod record;
 /// never more than sites.
 #[derive(Clone, Copy)]
 pub struct Log {
-    placements: [Placement; 32],
-    made: u8,
-    ghost all: { length placements ≡ site_count },
-    ghost bound: { made ≤ site_count },
-    ghost apart: { sum_by on_spot (after made placements) ≡ made },
+    placements: Few<Placement, 32>,
+    ghost apart: { sum_by on_spot (after (held placements)) ≡ length (held placements) },
 }

@@ -1,9 +1,8 @@
-use bench::{Angle, Feeder, Site};
+use bench::{Part, Site};
 
-/// One placement: where, from which feeder, at which angle.
-#[derive(Clone, Copy)]
+/// One placement: where, and which part at which angle.
+#[derive(Clone, Copy, PartialEq, Eq, Debug)]
 pub struct Placement {
     pub site: Site,
-    pub feeder: Feeder,
-    pub angle: Angle,
+    pub part: Part,
 }

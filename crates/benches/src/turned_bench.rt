@@ -2,13 +2,11 @@ ghost use Rattle.std.specs.Prelude.{◌≡◌, ℕ, ◌*◌, pos, ◌<ℤ◌};
 ghost use Rattle.bench.specs.Bounds.{feeder_count, full_turn};
 ghost use Rattle.bench.specs.Reading.{spot_under, state_under};
 ghost use Rattle.bench.specs.SetUps.{TurnsBy};
-ghost use Rattle.bench.specs.Sight.{sight};
-ghost use Rattle.bench.specs.declared.spot.Spot.{Spot as Spotted};
+ghost use Rattle.bench.specs.Sight.{Spot as Spotted, sight};
 ghost use Rattle.benches.specs.Turned.{turned_valid};
 
 use super::inspect::Inspect;
-use bench::angle::FULL_TURN;
-use bench::{Action, Angle, Bench, Fault, Request, ShiftRefusal, State};
+use bench::{Action, Angle, Bench, FULL_TURN, Fault, Request, ShiftRefusal, State};
 
 /// A bench that stands on another, and reads every angle of it from the other side of the board,
 /// under a shift. The bench below may be turned itself.
@@ -24,22 +22,11 @@ impl<B: Bench> TurnedBench<B> {
         ensures shift { TurnsBy shift result.1 result.0.shift }
         ensures below { result.0.below ≡ below }
     {
-        match Angle::new(shift) {
-            Some(angle) => (
-                TurnedBench {
-                    below,
-                    shift: angle,
-                },
-                Ok(()),
-            ),
-            None => (
-                TurnedBench {
-                    below,
-                    shift: Angle::ZERO,
-                },
-                Err(ShiftRefusal::ShiftOutOfRange),
-            ),
-        }
+        let (shift, answer) = match Angle::new(shift) {
+            Some(angle) => (angle, Ok(())),
+            None => (Angle::ZERO, Err(ShiftRefusal::ShiftOutOfRange)),
+        };
+        (TurnedBench { below, shift }, answer)
     }
 }
 
@@ -50,7 +37,7 @@ fn sight_under(shift: Angle, seen: i32) -> i32
 {
     let turn = FULL_TURN as i32;
     match Angle::new(seen % turn) {
-        Some(angle) => seen / turn * turn + angle.read_under(shift).hundredths() as i32,
+        Some(angle) => seen / turn * turn + angle.read_under(shift).get() as i32,
         None => seen,
     }
 }
@@ -61,13 +48,10 @@ impl<B: Bench> Bench for TurnedBench<B> {
     ghost valid = { λ b. turned_valid b.shift (B.Bench.state b.below) (B.Bench.valid b.below) };
 
     fn request(&mut self, request: Request) -> Result<i32, Fault> {
-        match Action::decode(request)? {
+        match Action::try_from(request)? {
             Action::Turn(angle) => {
-                let number = angle.read_under(self.shift).hundredths() as i32;
-                self.below.request(Request {
-                    operation: 1,
-                    number,
-                })
+                let below = Action::Turn(angle.read_under(self.shift));
+                self.below.request(Request::from(below))
             }
             Action::Look(_) => {
                 let seen = self.below.request(request)?;

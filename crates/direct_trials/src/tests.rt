@@ -1,7 +1,7 @@
 use bench::{Bench, Request};
 use benches::SiteBench;
 use direct::{Gone, Stand};
-use language::{GoRefusal, StartRefusal};
+use language::{GoRefusal, StartRefusal, progress};
 use std::test::*;
 
 /// Routine 0 calls routine 1, which picks from the feeder that it is given.
@@ -19,16 +19,17 @@ const CAUGHT: [u8; 56] = [
 /// Where a run is, its value and the beats made, as numbers.
 fn went(answer: Result<Gone, GoRefusal>) -> Result<(i32, i32, u32), i32> {
     match answer {
-        Ok(gone) => Ok((gone.progress.number(), gone.progress.value(), gone.beats)),
-        Err(refusal) => Err(refusal.number()),
+        Ok(gone) => Ok((
+            progress::number(gone.progress),
+            progress::value(gone.progress),
+            gone.beats,
+        )),
+        Err(refusal) => Err(refusal as i32),
     }
 }
 
 fn started(answer: Result<(), StartRefusal>) -> Result<(), i32> {
-    match answer {
-        Ok(()) => Ok(()),
-        Err(refusal) => Err(refusal.number()),
-    }
+    answer.map_err(|refusal| refusal as i32)
 }
 
 #[test]

@@ -4,10 +4,9 @@ use Rattle.std.proofs.Common.{arith}
 use Rattle.bench.specs.Bounds.{feeder_count}
 use Rattle.bench.specs.Histories.{History}
 use Rattle.bench.specs.Laws.{WorkedReading}
-use Rattle.bench.specs.Ranges.{to_feeder}
+use Rattle.bench.specs.Ranges.{Feeder, below}
 use Rattle.bench.specs.SetUps.{SetsUp}
 use Rattle.bench.specs.States.{picked}
-use Rattle.bench.specs.declared.feeder.Feeder.{Feeder}
 use Rattle.bench.specs.declared.state.State.{State as Standing}
 use Rattle.language.specs.Bytes.{bytes}
 use Rattle.language.specs.Calls.{Event, load, start, go, Answer, done, went, most_beats, Stand, fresh_stand, progress_number, progress_value}
@@ -34,7 +33,7 @@ abbrev pub Worked : List Record → List ℤ → Standing → Ending → ℕ →
 Worked t vs b e beats steps b' = (n : ℕ) → beats ≤ n → n ≤ most_beats → Works DirectCalls t vs n b e beats steps b' × Works ContinuationCalls t vs n b e beats steps b'
 
 abbrev pub feeder_3 : Feeder
-feeder_3 = to_feeder 3 (omega arith)
+feeder_3 = below feeder_count 3 (omega arith)
 
 -- R 0 0 1; T 0
 abbrev pub returning : List Record

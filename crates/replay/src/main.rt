@@ -1,11 +1,14 @@
 //! Performs an event script from standard input, and prints one line for each event.
 #![tactic(auto)]
 
+mod stop;
+
 use anyhow::anyhow;
-use script::{Expected, Line, Position, pair_text};
+use script::{Line, Position, pair_text};
 use session::Section;
 use std::io::{BufRead, BufReader};
 use std::process::ExitCode;
+use stop::Stop;
 
 /// What has been read of a script.
 #[derive(Drop)]
@@ -16,33 +19,22 @@ struct Script {
 }
 
 impl Script {
-    /// Takes one more line in, which stands in this text. A section that ends with it is performed. A
-    /// line that may not stand here is told by what was expected.
-    fn take(
-        &mut self,
-        rt: &HostRuntime,
-        line: Line,
-        text: &[u8],
-    ) -> anyhow::Result<Option<Expected>> {
-        match self.position.after(line) {
-            Ok(position) => self.position = position,
-            Err(expected) => return Ok(Some(expected)),
-        }
-        if let Line::Bench {
-            first,
-            second,
-            counts,
-        } = line
-        {
+    /// Takes the text of one more line in. A section that ends with it is performed.
+    fn take(&mut self, rt: &HostRuntime, text: &[u8]) -> Result<(), Stop> {
+        let Some(line) = Line::read(text)? else {
+            return Ok(());
+        };
+        self.position = self.position.after(line)?;
+        if let Line::Bench(pairing) = line {
             self.finish(rt)?;
-            self.section = Some(Section::new(rt.alloc(), first, second, counts));
+            self.section = Some(Section::new(rt.alloc(), pairing));
         } else if let Some(section) = &mut self.section {
             match line {
                 Line::Load => section.load(Line::table(rt.alloc(), text)?)?,
                 _ => section.add(line)?,
             }
         }
-        Ok(None)
+        Ok(())
     }
 
     /// Performs the section that is being read, and prints its answers.
@@ -63,18 +55,15 @@ fn run(rt: &HostRuntime) -> anyhow::Result<()> {
         position: Position::Start,
         section: None,
     };
-    let mut number = 0u64;
-    for text in BufReader::new(rt.alloc(), rt.stdin())?.split(rt.alloc(), b'\n') {
-        number = number.saturating_add(1);
-        let text = text?;
-        let unread = match Line::read(&text) {
-            Ok(Some(line)) => script.take(rt, line, &text)?,
-            Ok(None) => None,
-            Err(expected) => Some(expected),
-        };
-        if let Some(expected) = unread {
-            script.finish(rt)?;
-            return Err(anyhow!(format!(in rt.alloc(); "line {number}: {expected}")?));
+    let lines = BufReader::new(rt.alloc(), rt.stdin())?.split(rt.alloc(), b'\n');
+    for (number, text) in (1u64..).zip(lines) {
+        match script.take(rt, &text?) {
+            Ok(()) => {}
+            Err(Stop::Unread(expected)) => {
+                script.finish(rt)?;
+                return Err(anyhow!(format!(in rt.alloc(); "line {number}: {expected}")?));
+            }
+            Err(Stop::Failed(error)) => return Err(error),
         }
     }
     script.finish(rt)

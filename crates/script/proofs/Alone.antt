@@ -52,7 +52,7 @@ numbers_are (w ∷ ws) (z ∷ zs) n = let e = n.0.value in let f = numbers_are w
 abbrev the_form : Keyword → List Word → Line
 the_form Bench [] = line.State
 the_form Bench (v ∷ []) = line.State
-the_form Bench (v ∷ w ∷ ws) = line.Bench (kind_of v) (kind_of w) (map (signed_digits_value 10) ws)
+the_form Bench (v ∷ w ∷ ws) = line.Bench (record { first = kind_of v; second = kind_of w; counts = map (signed_digits_value 10) ws })
 the_form Turn [] = line.State
 the_form Turn (w ∷ ws) = line.Turn (signed_digits_value 10 w)
 the_form Load ws = line.Load
@@ -62,7 +62,7 @@ the_form Jog (v ∷ w ∷ ws) = line.Jog (record { operation = signed_digits_val
 the_form State ws = line.State
 
 said_is : (k : Keyword) (ws : List Word) (x : Line) → Says k ws x → x ≡ the_form k ws
-said_is k ws x (bench {ws = vs} {cs = cs} m n c l) = λ i. line.Bench (named m i) (named n i) (numbers_are vs cs c i)
+said_is k ws x (bench {ws = vs} {cs = cs} m n c l) = λ i. line.Bench (record { first = named m i; second = named n i; counts = numbers_are vs cs c i })
 said_is k ws x (turn n) = ap line.Turn n.value
 said_is k ws x (load h) = refl
 said_is k ws x (jog m n) = λ i. line.Jog (record { operation = m.value i; number = n.value i })

@@ -1,5 +1,8 @@
 -- The first word of a text is what stands between its first blanks and the next one.
-use Rattle.std.proofs.Common.{◌≡◌, ℕ, zero, suc, ◌<◌, Bool, true, false, List, [], ◌∷◌, length, get_or, take, drop, sym, refl, ap, ◌∙◌, arith}
+use Rattle.std.proofs.Common.{◌≡◌, ℕ, zero, suc, ◌-◌, ◌<◌, Bool, true, false, List, [], ◌∷◌, length, get_or, take, drop, Some, None, Option, MatchOption, not, sym, refl, ap, ◌∙◌, subst, arith}
+use Rattle.std.specs.List.{AllWithin, HoldsAt}
+use Rattle.std.specs.Option.{unwrap_or}
+use Rattle.std.proofs.lemmas.List.{drop_all, length-drop, length-take-le, get_or-drop}
 use Rattle.script.specs.Words.{blank, first, others, filled, words}
 
 -- whether each of the first n bytes is a blank
@@ -54,24 +57,34 @@ unfolding words
 word_first n bs l h s =
     word_then (take n bs) bs l (first_is n bs h s) ∙ ap (λ ws. take n bs ∷ ws) (ap filled (sym (others_are n bs h)) ∙ rw (first_is 0 (drop n bs) (λ i j. absurd (omega arith)) (stops_drop false n bs s)))
 
--- a text that begins neither with a blank nor with another byte has no word
-pub word_none : (n : ℕ) (bs : List ℕ) → Stops true 0 bs → Stops false n bs → length (take n bs) ≡ 0 → words bs ≡ []
+-- what `position` finds: the first byte that is no blank, or that is one
+abbrev pub Found : Bool → List ℕ → Option ℕ → Type 0
+Found b bs r = MatchOption r (AllWithin (λ x. blank x ≡ not b) bs 0 (length bs)) (λ i. (i < length bs) × HoldsAt (λ x. blank x ≡ b) bs i × AllWithin (λ x. blank x ≡ not b) bs 0 i)
+
+-- a text of blanks has no word
+pub no_word : (bs : List ℕ) (r : Option ℕ) → Found false bs r → r ≡ None → words bs ≡ []
 unfolding words
-word_none n [] s t l = refl
-word_none zero (x ∷ bs) s t l = by (blank x) refl
-  where
-    by : (b : Bool) → blank x ≡ b → words (x ∷ bs) ≡ []
-    by true e = absurd (s (omega arith) e)
-    by false e = absurd (t (omega arith) e)
-word_none (suc n) (x ∷ bs) s t l = absurd (omega arith)
+no_word bs r f e = sym (past_blanks (length bs) bs (λ i h. (subst (Found false bs) e f) i 0 (omega arith) h)) ∙ ap words (drop_all (length bs) bs (omega arith))
+
+-- up to the first blank or the end
+end_of : (ts : List ℕ) (r : Option ℕ) → Found true ts r → Run false (unwrap_or r (length ts)) ts × Stops false (unwrap_or r (length ts)) ts
+end_of ts None f = (λ i h. f i 0 (omega arith) h, λ h e. absurd (omega arith))
+end_of ts (Some m) f = (λ i h. f.2 i 0 (omega arith) h, λ h e. let o : true ≡ false = sym (f.1 0) ∙ e in cc)
+
+-- a text whose first byte is none has a word
+some_word : (ts : List ℕ) (r : Option ℕ) → 0 < length ts → blank (get_or ts 0 0) ≡ false → Found true ts r → 0 < length (take (unwrap_or r (length ts)) ts)
+some_word ts None l e f = omega (arith, length-take-le (length ts) ts (omega arith))
+some_word ts (Some zero) l e f = let o : true ≡ false = sym (f.1 0) ∙ e in cc
+some_word ts (Some (suc m)) l e f = omega (arith, length-take-le (suc m) ts (omega (arith, f.0)))
 
 -- ts is what follows the blanks at the front of bs, and w is what ts has before its first blank
-module _ (n m : ℕ) (bs ts w : List ℕ) (h : Run true n bs) (s : Stops true n bs) (e : ts ≡ drop n bs) (t : Stops false m ts) (d : w ≡ take m ts) where
-  skipped : words ts ≡ words bs
-  skipped = ap words e ∙ past_blanks n bs h
-
-  pub no_word : length w ≡ 0 → words bs ≡ []
-  no_word l = sym skipped ∙ word_none m ts (rw e (stops_drop true n bs s)) t (ap length (sym d) ∙ l)
-
-  pub one_word : (rest : List ℕ) → 0 < length w → Run false m ts → rest ≡ drop m ts → words bs ≡ w ∷ words rest
-  one_word rest l k f = sym skipped ∙ rw (d, f) (word_first m ts (rw d at l) k t)
+pub one_word : (bs ts w rest : List ℕ) (n m : ℕ) (r s : Option ℕ) → Found false bs r → r ≡ Some n → ts ≡ drop n bs → Found true ts s → m ≡ unwrap_or s (length ts) → w ≡ take m ts → rest ≡ drop m ts →
+    (words bs ≡ w ∷ words rest) × (0 < length w)
+one_word bs ts w rest n m r s f e t g k d h =
+    let start = subst (Found false bs) e f in
+    let blanks : Run true n bs = λ i l. start.2 i 0 (omega arith) l in
+    let short : length ts ≡ length bs - n = ap length t ∙ length-drop n bs in
+    let first : blank (get_or ts 0 0) ≡ false = ap (λ l. blank (get_or l 0 0)) t ∙ ap blank (get_or-drop n bs 0 0 ∙ ap (λ j. get_or bs j 0) (omega arith)) ∙ start.1 0 in
+    let end = subst (λ j. Run false j ts × Stops false j ts) (sym k) (end_of ts s g) in
+    let some : 0 < length (take m ts) = subst (λ j. 0 < length (take j ts)) (sym k) (some_word ts s (omega (arith, start.0)) first g) in
+    (sym (ap words t ∙ past_blanks n bs blanks) ∙ rw (d, h) (word_first m ts some end.0 end.1), rw d some)

@@ -22,5 +22,5 @@ load_said ws rest t e = rw (t.cut, e) (load t.says)
 pub jog_said : (ws vs rest : List Word) (o y : ℤ) → Takes Writes ws o vs → Takes Writes vs y rest → rest ≡ [] → Says Jog ws (line.Jog (record { operation = o; number = y }))
 jog_said ws vs rest o y t u e = rw (t.cut, u.cut, e) (jog t.says u.says)
 
-pub bench_said : (ws vs rest : List Word) (k l : Kind) (cs : List ℤ) → Takes Names ws k vs → Takes Names vs l rest → Numbers rest cs × (length cs ≡ 8) → Says Bench ws (line.Bench k l cs)
+pub bench_said : (ws vs rest : List Word) (k l : Kind) (cs : List ℤ) → Takes Names ws k vs → Takes Names vs l rest → Numbers rest cs × (length cs ≡ 8) → Says Bench ws (line.Bench (record { first = k; second = l; counts = cs }))
 bench_said ws vs rest k l cs t u h = rw (t.cut, u.cut) (bench t.says u.says h.0 h.1)

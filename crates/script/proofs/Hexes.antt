@@ -1,38 +1,39 @@
--- Words of pairs of digits, one pair on.
-use Rattle.std.proofs.Common.{◌≡◌, ℕ, ◌+◌, ◌-◌, ◌*◌, ◌<◌, ◌≤◌, Bool, List, [], ◌∷◌, ◌++◌, length, get_or, take, drop, codes, Decides, sym, refl, ap, ◌∙◌, subst, arith}
+-- Words of pairs of digits, pair by pair.
+use Rattle.std.proofs.Common.{◌≡◌, ℕ, zero, suc, ◌+◌, ◌*◌, ◌/◌, ◌%◌, ◌<◌, ◌≤◌, Bool, true, nat_lt, [], ◌∷◌, map, length, codes, Decides, Some, None, Option, SomeIff, refl, ap, subst, arith, sym}
 use Rattle.std.specs.Char.{digit_value}
-use Rattle.std.proofs.lemmas.List.{take_rest, append_assoc}
-use Rattle.script.specs.Tables.{Pairs, Hex, none, digits, nibble, hex_bytes}
+use Rattle.std.specs.List.{list_all}
+use Rattle.std.specs.Option.{unwrap_or}
+use Rattle.std.specs.Simd.{first_chunks}
+use Rattle.std.proofs.lemmas.Bool.{ltb-true, lt-ltb, le-ltb, and_parts}
+use Rattle.script.specs.Tables.{Pairs, Hex, none, digits, nibble, pair_value, hex_bytes}
 use Rattle.script.specs.Words.{Word}
 
--- what stands after the first pair
-abbrev pub after_pair : Word → Word
-after_pair w = take (length w - 2) (drop 2 w)
+abbrev pub is_digit : ℕ → Bool
+is_digit b = nat_lt (digit_value b) 16
 
-pairs_on : (w : Word) → 2 ≤ length w → digit_value (get_or w 0 0) < 16 → digit_value (get_or w 1 0) < 16 → Pairs (drop 2 w) → Pairs w
-pairs_on [] h a b p = absurd (omega arith)
-pairs_on (x ∷ []) h a b p = absurd (omega arith)
-pairs_on (x ∷ y ∷ w) h a b p = (a, b, p)
+pub pairs_of : (w : Word) → length w % 2 ≡ 0 → list_all is_digit w ≡ true → Pairs w
+pairs_of [] e h = tt
+pairs_of (a ∷ []) e h = absurd (omega arith)
+pairs_of (a ∷ b ∷ w) e h =
+    let first = and_parts (is_digit a) _ h in
+    let second = and_parts (is_digit b) _ first.1 in
+    (ltb-true (digit_value a) 16 first.0, ltb-true (digit_value b) 16 second.0, pairs_of w (omega arith) second.1)
 
-pairs_off : (w : Word) → Pairs w → Pairs (drop 2 w)
-pairs_off [] p = tt
-pairs_off (x ∷ []) p = absurd p
-pairs_off (x ∷ y ∷ w) p = p.2
+pub of_pairs : (w : Word) → Pairs w → (length w % 2 ≡ 0) × (list_all is_digit w ≡ true)
+of_pairs [] p = (refl, refl)
+of_pairs (a ∷ []) p = absurd p
+of_pairs (a ∷ b ∷ w) p =
+    let rest = of_pairs w p.2 in
+    (omega arith, rw (lt-ltb (digit_value a) 16 p.0, lt-ltb (digit_value b) 16 p.1) rest.1)
 
-pub pairs_more : (w : Word) → 2 ≤ length w → digit_value (get_or w 0 0) < 16 → digit_value (get_or w 1 0) < 16 → Pairs (after_pair w) → Pairs w
-pairs_more w h a b p = pairs_on w h a b (subst Pairs (take_rest w 2) p)
-
-pub pairs_less : (w : Word) → Pairs w → Pairs (after_pair w)
-pairs_less w p = subst Pairs (sym (take_rest w 2)) (pairs_off w p)
-
-hex_on : (w : Word) → 2 ≤ length w → (nibble (get_or w 0 0) * 16 + nibble (get_or w 1 0)) ∷ hex_bytes (drop 2 w) ≡ hex_bytes w
-hex_on [] h = absurd (omega arith)
-hex_on (x ∷ []) h = absurd (omega arith)
-hex_on (x ∷ y ∷ w) h = refl
-
--- one byte more is read
-pub hex_more : (bs : List ℕ) (w : Word) → 2 ≤ length w → (bs ++ (nibble (get_or w 0 0) * 16 + nibble (get_or w 1 0)) ∷ []) ++ hex_bytes (after_pair w) ≡ bs ++ hex_bytes w
-hex_more bs w h = append_assoc bs _ _ ∙ ap (λ v. bs ++ ((nibble (get_or w 0 0) * 16 + nibble (get_or w 1 0)) ∷ hex_bytes v)) (take_rest w 2) ∙ ap (λ v. bs ++ v) (hex_on w h)
+-- the pairs of a word, one by one
+pub bytes_of : (w : Word) (k : ℕ) → k ≡ length w / 2 → map pair_value (first_chunks 2 k w) ≡ hex_bytes w
+bytes_of [] zero e = refl
+bytes_of [] (suc k) e = absurd (omega arith)
+bytes_of (a ∷ []) zero e = refl
+bytes_of (a ∷ []) (suc k) e = absurd (omega arith)
+bytes_of (a ∷ b ∷ w) zero e = absurd (omega arith)
+bytes_of (a ∷ b ∷ w) (suc k) e = ap (λ bs. (nibble a * 16 + nibble b) ∷ bs) (bytes_of w k (omega arith))
 
 pub dash : (w : Word) → w ≡ codes "-" → Hex w
 dash w e = subst Hex (sym e) none
@@ -43,3 +44,7 @@ hex_pairs w n (digits p) = p
 
 pub decides_hex : (w : Word) (r : Bool) → (w ≡ codes "-" → ⊥) → Decides r (Pairs w) → Decides r (Hex w)
 decides_hex w r n h = (λ t. digits (h.0 t), λ x. h.1 (hex_pairs w n x))
+
+pub nibble_of : (b : ℕ) (r : Option ℕ) → SomeIff r (digit_value b < 16) (digit_value b) → unwrap_or r 0 ≡ nibble b
+nibble_of b None h = let high : 16 ≤ digit_value b = omega arith in rw (le-ltb (digit_value b) 16 high)
+nibble_of b (Some x) h = rw (lt-ltb (digit_value b) 16 h.0) h.1

@@ -8,3 +8,4 @@ pub mod Alone
 pub mod Readings
 pub mod Ordering
 pub mod Texts
+pub mod Told

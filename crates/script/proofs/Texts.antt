@@ -1,31 +1,38 @@
--- Texts that are written piece by piece.
-use Rattle.std.proofs.Common.{◌≡◌, ℕ, ◌+◌, ◌<◌, ◌≤◌, List, [], ◌∷◌, ◌++◌, length, get_or, take, drop, codes, sym, ap, ◌∙◌, append_assoc, append-nil, add-one, arith}
-use Rattle.bench.specs.declared.spot.Spot.{Spot}
-use Rattle.std.specs.List.{flat_map}
-use Rattle.std.proofs.lemmas.List.{flat_map_more, take_more, take_all, drop_more, drop_all}
-use Rattle.script.specs.Answers.{spaced, spot_text_of, taken_text_of, or_none}
+-- The text of sites, one more written, and where none is taken.
+use Rattle.std.proofs.Common.{◌≡◌, ℕ, suc, ◌+◌, ◌<◌, Bool, true, false, Some, None, List, [], ◌∷◌, ◌++◌, length, get_or, take, codes, sym, refl, ap, ◌∙◌, append_assoc, append-nil, arith}
+use Rattle.std.specs.List.{list_all}
+use Rattle.std.proofs.lemmas.List.{take_more, length-take-le}
+use Rattle.bench.specs.Sight.{Spot}
+use Rattle.script.specs.Answers.{spot_text_of, taken_text_of, or_none}
 
--- one count more
-pub counts_more : (cs : List ℕ) (i : ℕ) (t w t' : List ℕ) → i < length cs → t ≡ flat_map spaced (take i cs) → w ≡ spaced (get_or cs i 0) → t' ≡ t ++ w → t' ≡ flat_map spaced (take (i + 1) cs)
-counts_more cs i t w t' l e f g = g ∙ rw (e, f) (flat_map_more spaced [] (take i cs) (get_or cs i 0) ∙ ap (flat_map spaced) (sym (take_more cs i 0 l)))
+abbrev pub free : Spot → Bool
+free None = true
+free (Some p) = false
 
-pub counts_all : (cs : List ℕ) (i : ℕ) (t : List ℕ) → length cs ≤ i → t ≡ flat_map spaced (take i cs) → t ≡ flat_map spaced cs
-counts_all cs i t l e = e ∙ ap (flat_map spaced) (take_all i cs l)
+none_taken : (i : ℕ) (ps : List Spot) → list_all free ps ≡ true → taken_text_of i ps ≡ []
+none_taken i [] h = refl
+none_taken i (None ∷ ps) h = none_taken (suc i) ps h
+none_taken i (Some p ∷ ps) h = cc
 
--- one site more
-pub sites_more : (ps : List Spot) (i : ℕ) (p : Spot) (t w t' : List ℕ) → i < length ps → p ≡ get_or ps i p → t ++ taken_text_of i (drop i ps) ≡ taken_text_of 0 ps → w ≡ spot_text_of i p → t' ≡ t ++ w → t' ++ taken_text_of (i + 1) (drop (i + 1) ps) ≡ taken_text_of 0 ps
-sites_more ps i p t w t' l d e f g =
-    let here : drop i ps ≡ p ∷ drop (i + 1) ps = drop_more ps i p l ∙ ap (λ q. q ∷ drop (i + 1) ps) (sym d) in
-    let text : taken_text_of i (drop i ps) ≡ spot_text_of i p ++ taken_text_of (i + 1) (drop (i + 1) ps) = ap (taken_text_of i) here ∙ ap (λ n. spot_text_of i p ++ taken_text_of n (drop (i + 1) ps)) (sym (add-one i)) in
-    rw (g, f) (append_assoc t (spot_text_of i p) _ ∙ ap (λ u. t ++ u) (sym text) ∙ e)
+pub no_sites : (ps : List Spot) → list_all free ps ≡ true → codes " none" ≡ or_none (taken_text_of 0 ps)
+no_sites ps h = ap or_none (sym (none_taken 0 ps h))
 
-pub sites_all : (ps : List Spot) (i : ℕ) (t : List ℕ) → length ps ≤ i → t ++ taken_text_of i (drop i ps) ≡ taken_text_of 0 ps → t ≡ taken_text_of 0 ps
-sites_all ps i t l e = sym (append-nil t) ∙ ap (λ qs. t ++ taken_text_of i qs) (sym (drop_all i ps l)) ∙ e
+some_taken : (i : ℕ) (ps : List Spot) → list_all free ps ≡ false → taken_text_of i ps ≡ or_none (taken_text_of i ps)
+some_taken i [] h = cc
+some_taken i (None ∷ ps) h = some_taken (suc i) ps h
+some_taken i (Some p ∷ ps) h = refl
 
-pub some_sites : (t u : List ℕ) → 0 < length t → t ≡ u → t ≡ or_none u
-some_sites [] u l e = absurd (omega arith)
-some_sites (b ∷ t) u l e = rw (sym e)
+pub some_sites : (ps : List Spot) → list_all free ps ≡ false → taken_text_of 0 ps ≡ or_none (taken_text_of 0 ps)
+some_sites ps h = some_taken 0 ps h
 
-pub no_sites : (t u : List ℕ) → length t ≡ 0 → t ≡ u → codes " none" ≡ or_none u
-no_sites [] u l e = rw (sym e)
-no_sites (b ∷ t) u l e = absurd (omega arith)
+taken_push : (i n : ℕ) (ps : List Spot) (p : Spot) → i + length ps ≡ n → taken_text_of i (ps ++ p ∷ []) ≡ taken_text_of i ps ++ spot_text_of n p
+taken_push i n [] p e = append-nil (spot_text_of i p) ∙ ap (λ k. spot_text_of k p) (omega arith)
+taken_push i n (q ∷ ps) p e = ap (λ t. spot_text_of i q ++ t) (taken_push (suc i) n ps p (omega arith)) ∙ sym (append_assoc (spot_text_of i q) (taken_text_of (suc i) ps) (spot_text_of n p))
+
+-- one site more, whose text is t
+pub taken_more : (ps : List Spot) (i : ℕ) (p : Spot) (t : List ℕ) → i < length ps → p ≡ get_or ps i p → spot_text_of i p ≡ t → taken_text_of 0 (take i ps) ++ t ≡ taken_text_of 0 (take (i + 1) ps)
+taken_more ps i p t h here text =
+    ap (λ u. taken_text_of 0 (take i ps) ++ u) (sym text)
+    ∙ sym (taken_push 0 i (take i ps) p (omega (arith, length-take-le i ps (omega arith))))
+    ∙ ap (λ q. taken_text_of 0 (take i ps ++ q ∷ [])) here
+    ∙ ap (taken_text_of 0) (sym (take_more ps i p h))

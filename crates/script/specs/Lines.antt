@@ -20,7 +20,7 @@ Numbers (w ∷ ws) (z ∷ zs) = Writes w z × Numbers ws zs
 -- what the words after a keyword say with it
 pub data Says : Keyword → List Word → Line → Type 0 where
   -- bench KIND KIND c0 … c7
-  bench : {v w : Word} {ws : List Word} {k l : Kind} {cs : List ℤ} → Names v k → Names w l → Numbers ws cs → length cs ≡ 8 → Says Bench (v ∷ w ∷ ws) (line.Bench k l cs)
+  bench : {v w : Word} {ws : List Word} {k l : Kind} {cs : List ℤ} → Names v k → Names w l → Numbers ws cs → length cs ≡ 8 → Says Bench (v ∷ w ∷ ws) (line.Bench (record { first = k; second = l; counts = cs }))
   -- turn z
   turn : {w : Word} {z : ℤ} → Writes w z → Says Turn (w ∷ []) (line.Turn z)
   -- load HEX

@@ -1,11 +1,11 @@
 -- The order of the lines of a script.
-use Rattle.std.specs.Prelude.{List, ℤ}
+use Rattle.std.specs.Prelude.{ℤ}
 use Rattle.bench.specs.declared.request.Request.{Request}
 use Rattle.script.specs.declared.expected.Expected.{Expected}
 use Rattle.script.specs.declared.expected.Expected.TheVariants as expected
-use Rattle.script.specs.declared.kind.Kind.{Kind}
 use Rattle.script.specs.declared.line.Line.{Line}
 use Rattle.script.specs.declared.line.Line.TheVariants.{Bench, Turn, Load, Jog, State}
+use Rattle.script.specs.declared.pairing.Pairing.{Pairing}
 use Rattle.script.specs.declared.position.Position.{Position}
 use Rattle.script.specs.declared.position.Position.TheVariants.{Start, Opened, Within, Closed}
 
@@ -19,7 +19,7 @@ Open Closed = ⊥
 -- at the position p, this line may come, and leads to that position
 pub data Next : Position → Line → Position → Type 0 where
   -- a bench line begins a section, and ends the one before
-  begins : {p : Position} {k l : Kind} {cs : List ℤ} → Next p (Bench k l cs) Opened
+  begins : {p : Position} {b : Pairing} → Next p (Bench b) Opened
   -- the benches are turned right after they are set up, or not at all
   turns : {z : ℤ} → Next Opened (Turn z) Within
   -- any number of events

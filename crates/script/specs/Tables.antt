@@ -1,5 +1,5 @@
 -- The bytes of a table as a word: two hexadecimal digits a byte, or a dash where there is no byte.
-use Rattle.std.specs.Prelude.{ℕ, ◌+◌, ◌*◌, ◌<◌, cond, List, [], ◌∷◌, codes, nat_lt}
+use Rattle.std.specs.Prelude.{ℕ, ◌+◌, ◌*◌, ◌<◌, cond, List, [], ◌∷◌, codes, nat_lt, slice_index}
 use Rattle.std.specs.Char.{digit_value}
 use Rattle.script.specs.Words.{Word}
 
@@ -20,6 +20,10 @@ HexIs w u = Hex w
 -- what a digit is worth
 abbrev pub nibble : ℕ → ℕ
 nibble c = cond (nat_lt (digit_value c) 16) (digit_value c) 0
+
+-- what a pair of digits is worth
+abbrev pub pair_value : List ℕ → ℕ
+pair_value p = nibble (slice_index p 0) * 16 + nibble (slice_index p 1)
 
 -- the bytes that such a word stands for
 abbrev pub hex_bytes : Word → List ℕ

@@ -3,13 +3,12 @@ ghost use Rattle.std.specs.Prelude.{◌≡◌, length, replicate, MatchResult};
 ghost use Rattle.script.specs.Blame.{fields, Blames};
 ghost use Rattle.script.specs.Lines.{Numbers, Says};
 ghost use Rattle.script.specs.Words.{words};
-ghost use Rattle.script.specs.declared.expected.Expected.{Expected};
-ghost use Rattle.script.specs.declared.keyword.Keyword.{Keyword};
 
 use super::expected::Expected;
 use super::field;
 use super::keyword::Keyword;
 use super::line::Line;
+use super::pairing::Pairing;
 use bench::Request;
 
 /// What a text says after a keyword.
@@ -32,11 +31,11 @@ fn bench(text: &[u8]) -> Result<Line, Expected>
     let (first, text) = field::kind(text)?;
     let (second, text) = field::kind(text)?;
     let counts = counts(text)?;
-    Ok(Line::Bench {
+    Ok(Line::Bench(Pairing {
         first,
         second,
         counts,
-    })
+    }))
 }
 
 /// Eight counts, and no further word.
@@ -69,7 +68,7 @@ fn turn(text: &[u8]) -> Result<Line, Expected>
 fn load(text: &[u8]) -> Result<Line, Expected>
     ensures { MatchResult result (Says Keyword.Load (words text.now)) (Blames (fields Keyword.Load) (words text.now)) }
 {
-    let text = field::table(text)?;
+    let ((), text) = field::table(text)?;
     field::end(text)?;
     Ok(Line::Load)
 }

@@ -1,42 +1,22 @@
 //! Bytes as a word of hexadecimal digits.
-ghost use Rattle.std.specs.Prelude.{◌≡◌, ◌<◌, IfOk, Decides};
+ghost use Rattle.std.specs.Prelude.{◌≡◌, ◌<◌, IfOk, Decides, SomeIff};
 ghost use Rattle.std.specs.Char.{digit_value};
-ghost use Rattle.script.specs.Tables.{Hex, Pairs, nibble, hex_bytes};
+ghost use Rattle.script.specs.Tables.{Hex, Pairs, pair_value, hex_bytes};
 
 use std::alloc::{AllocError, Global};
 
-/// Whether a byte is a hexadecimal digit.
-fn is_digit(byte: u8) -> bool
-    ensures { Decides result (digit_value byte < 16) }
+/// What a hexadecimal digit is worth, if the byte is one.
+fn digit(byte: u8) -> Option<u8>
+    ensures { SomeIff result (digit_value byte < 16) (digit_value byte) }
 {
-    matches!(byte, b'0'..=b'9' | b'a'..=b'f' | b'A'..=b'F')
-}
-
-/// What a digit is worth; 0 for what is none.
-fn value(byte: u8) -> u8
-    ensures is { result ≡ nibble byte }
-    ensures small { result < 16 }
-{
-    match byte {
-        b'0'..=b'9' => byte - b'0',
-        b'a'..=b'f' => byte - b'a' + 10,
-        b'A'..=b'F' => byte - b'A' + 10,
-        _ => 0,
-    }
+    Some(char::from(byte).to_digit(16)? as u8)
 }
 
 /// Whether a word is made of pairs of digits.
 fn is_pairs(word: &[u8]) -> bool
     ensures { Decides result (Pairs word.now) }
 {
-    let mut rest = word;
-    while let [high, low, more @ ..] = rest {
-        if !is_digit(*high) || !is_digit(*low) {
-            return false;
-        }
-        rest = more;
-    }
-    rest.is_empty()
+    word.len() % 2 == 0 && word.iter().all(|byte| digit(*byte).is_some())
 }
 
 /// Whether a word stands for bytes.
@@ -49,15 +29,17 @@ pub fn is_hex(word: &[u8]) -> bool
     }
 }
 
+/// What a pair of digits is worth; a digit that is none is worth 0.
+fn pair(digits: &[u8; 2]) -> u8
+    ensures { result ≡ pair_value digits.now }
+{
+    digit(digits[0]).unwrap_or(0) * 16 + digit(digits[1]).unwrap_or(0)
+}
+
 /// The bytes that a word stands for.
 pub fn bytes(heap: Global, word: &[u8]) -> Result<Vec<u8>, AllocError>
     ensures { IfOk result (λ v. v.items ≡ hex_bytes word.now) }
 {
-    let mut bytes = Vec::new(heap);
-    let mut rest = word;
-    while let [high, low, more @ ..] = rest {
-        bytes.push(value(*high) * 16 + value(*low))?;
-        rest = more;
-    }
-    Ok(bytes)
+    let (pairs, _) = word.as_chunks::<2>();
+    pairs.iter().map(pair).collect(heap)
 }

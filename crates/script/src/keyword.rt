@@ -1,9 +1,12 @@
-ghost use Rattle.std.specs.Prelude.{◌≡◌, MatchOption, ◌≢◌};
+ghost use Rattle.std.specs.Prelude.{◌≡◌, MatchResult, ◌≢◌};
 ghost use Rattle.script.specs.Names.{keyword_name};
-ghost use Rattle.script.specs.declared.keyword.Keyword.{Keyword};
+ghost use Rattle.script.specs.declared.expected.Expected.TheVariants as expected;
+ghost use Rattle.script.specs.declared.keyword.Keyword.{Keyword as Key};
+
+use super::expected::Expected;
 
 /// The first word of a line: it says what the others are.
-#[derive(Clone, Copy)]
+#[derive(Clone, Copy, PartialEq, Eq, Debug)]
 pub enum Keyword {
     Bench,
     Turn,
@@ -12,18 +15,20 @@ pub enum Keyword {
     State,
 }
 
-impl Keyword {
-    /// The keyword that a word spells.
-    pub fn named(word: &[u8]) -> Option<Keyword>
-        ensures { MatchOption result ((k : Keyword) → word.now ≢ keyword_name k) (λ k. word.now ≡ keyword_name k) }
-    {
+/// The keyword that a word spells.
+impl<'a> TryFrom<&'a [u8]> for Keyword {
+    type Error = Expected;
+
+    ghost try_from_gives = { λ w r. MatchResult r (λ k. w.now ≡ keyword_name k) (λ e. (e ≡ expected.Keyword) × ((k : Key) → w.now ≢ keyword_name k)) };
+
+    fn try_from(word: &'a [u8]) -> Result<Keyword, Expected> {
         match word {
-            b"bench" => Some(Keyword::Bench),
-            b"turn" => Some(Keyword::Turn),
-            b"load" => Some(Keyword::Load),
-            b"jog" => Some(Keyword::Jog),
-            b"state" => Some(Keyword::State),
-            _ => None,
+            b"bench" => Ok(Keyword::Bench),
+            b"turn" => Ok(Keyword::Turn),
+            b"load" => Ok(Keyword::Load),
+            b"jog" => Ok(Keyword::Jog),
+            b"state" => Ok(Keyword::State),
+            _ => Err(Expected::Keyword),
         }
     }
 }

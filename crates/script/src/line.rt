@@ -1,15 +1,11 @@
-use super::kind::Kind;
+use super::pairing::Pairing;
 use bench::Request;
 
 /// What a line of a script asks for.
 #[derive(Clone, Copy, PartialEq, Eq, Debug)]
 pub enum Line {
-    /// Two benches, each set up with the same counts: a section begins.
-    Bench {
-        first: Kind,
-        second: Kind,
-        counts: [i32; 8],
-    },
+    /// Two benches: a section begins.
+    Bench(Pairing),
     /// Both benches turned by a shift.
     Turn(i32),
     /// A table, whose bytes `Line::table` reads.

@@ -5,8 +5,6 @@ ghost use Rattle.script.specs.Numbers.{Writes};
 pub fn number(word: &[u8]) -> Option<i32>
     ensures { MatchOption result ((z : ℤ) → Writes word.now z → ⊥) (λ z. Writes word.now z) }
 {
-    match std::str::from_utf8(word) {
-        Ok(text) => text.parse::<i32>().ok(),
-        Err(_) => None,
-    }
+    let text = std::str::from_utf8(word).ok()?;
+    text.parse().ok()
 }

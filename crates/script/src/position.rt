@@ -1,6 +1,6 @@
-ghost use Rattle.std.specs.Prelude.{◌≡◌, IfErr, MatchResult, ◌≢◌};
+ghost use Rattle.std.specs.Prelude.{◌≡◌, IfErr};
 ghost use Rattle.script.specs.Fields.{Found};
-ghost use Rattle.script.specs.Order.{Open, Next, wanted};
+ghost use Rattle.script.specs.Order.{Next, wanted};
 ghost use Rattle.script.specs.declared.position.Position.{Position};
 
 use super::expected::Expected;
@@ -27,40 +27,14 @@ impl Position {
         ensures wants { IfErr result (λ e. e ≡ wanted self) }
         ensures alone { (p q : Position) → Next self line p → Next self line q → p ≡ q }
     {
-        match line {
-            Line::Bench {
-                first: _,
-                second: _,
-                counts: _,
-            } => Ok(Position::Opened),
-            Line::Turn(_) => self.right_after_bench(Position::Within),
-            Line::Load => self.in_section(Position::Within),
-            Line::Jog(_) => self.in_section(Position::Within),
-            Line::State => self.in_section(Position::Closed),
-        }
-    }
-
-    /// The next position, where a section has just begun.
-    fn right_after_bench(self, next: Position) -> Result<Position, Expected>
-        ensures { MatchResult result (λ q. (self ≡ Position.Opened) × (q ≡ next)) (λ e. (self ≢ Position.Opened) × (e ≡ wanted self)) }
-    {
-        match self {
-            Position::Opened => Ok(next),
-            Position::Within => Err(Expected::Event),
-            Position::Start => Err(Expected::Bench),
-            Position::Closed => Err(Expected::Bench),
-        }
-    }
-
-    /// The next position, where a section stands open.
-    fn in_section(self, next: Position) -> Result<Position, Expected>
-        ensures { MatchResult result (λ q. Open self × (q ≡ next)) (λ e. (Open self → ⊥) × (e ≡ wanted self)) }
-    {
-        match self {
-            Position::Opened => Ok(next),
-            Position::Within => Ok(next),
-            Position::Start => Err(Expected::Bench),
-            Position::Closed => Err(Expected::Bench),
+        match (line, self) {
+            (Line::Bench(_), _) => Ok(Position::Opened),
+            (Line::Turn(_), Position::Opened) => Ok(Position::Within),
+            (Line::Load, Position::Opened | Position::Within) => Ok(Position::Within),
+            (Line::Jog(_), Position::Opened | Position::Within) => Ok(Position::Within),
+            (Line::State, Position::Opened | Position::Within) => Ok(Position::Closed),
+            (_, Position::Within) => Err(Expected::Event),
+            (_, Position::Start | Position::Closed) => Err(Expected::Bench),
         }
     }
 }

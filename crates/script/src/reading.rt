@@ -30,22 +30,17 @@ impl Line {
         if word[0] == b'#' {
             return Ok(None);
         }
-        match Keyword::named(word) {
-            Some(keyword) => Ok(Some(form(keyword, rest)?)),
-            None => Err(Expected::Keyword),
-        }
+        let keyword = Keyword::try_from(word)?;
+        Ok(Some(form(keyword, rest)?))
     }
 
     /// The bytes of the table that a line carries as its second word; none if it has no such word.
     pub fn table(heap: Global, text: &[u8]) -> Result<Vec<u8>, AllocError>
         ensures { IfOk result (λ v. v.items ≡ table_bytes (words text.now)) }
     {
-        let Some((_, rest)) = next_word(text) else {
-            return Ok(Vec::new(heap));
-        };
-        let Some((word, _)) = next_word(rest) else {
-            return Ok(Vec::new(heap));
-        };
-        hex::bytes(heap, word)
+        match next_word(text).and_then(|(_, rest)| next_word(rest)) {
+            Some((word, _)) => hex::bytes(heap, word),
+            None => Ok(Vec::new(heap)),
+        }
     }
 }

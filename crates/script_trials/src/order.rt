@@ -1,12 +1,12 @@
 use bench::Request;
-use script::{Expected, Kind, Line, Position};
+use script::{Expected, Kind, Line, Pairing, Position};
 use std::test::*;
 
-const BENCH: Line = Line::Bench {
+const BENCH: Line = Line::Bench(Pairing {
     first: Kind::Site,
     second: Kind::Log,
     counts: [0; 8],
-};
+});
 
 const TURN: Line = Line::Turn(0);
 

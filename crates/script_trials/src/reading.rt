@@ -1,5 +1,5 @@
 use bench::Request;
-use script::{Expected, Kind, Line};
+use script::{Expected, Kind, Line, Pairing};
 use std::process::Abort;
 use std::test::*;
 
@@ -28,11 +28,11 @@ fn each_form(rt: HostRuntime) -> Result<(), Fail> {
     asks(
         &rt,
         b"bench site log 0 1 2 3 999 1000 -7 7",
-        Line::Bench {
+        Line::Bench(Pairing {
             first: Kind::Site,
             second: Kind::Log,
             counts,
-        },
+        }),
     )?;
     asks(&rt, b"turn 35999", Line::Turn(35_999))?;
     asks(&rt, b"jog 4 31", jog(4, 31))?;

@@ -1,19 +1,21 @@
-use bench::{Angle, Fault, Feeder, Nozzle, SetUpRefusal, ShiftRefusal, Site, Spot, State};
+use bench::{Angle, Fault, Feeder, Part, SetUpRefusal, ShiftRefusal, Site, State};
+use language::NameCause;
 use script::{Answer, Expected, pair_text};
 use std::process::Abort;
 use std::test::*;
+use table::{NameFault, TableFault};
 
 const FRESH: State = State {
     site: Site::FIRST,
     angle: Angle::ZERO,
-    nozzle: Nozzle::Empty,
+    nozzle: None,
     counts: [0, 1, 2, 3, 4, 5, 999, 7],
     bin: 0,
-    sites: [Spot::Free; 32],
+    sites: [None; 32],
 };
 
 fn writes(rt: &(impl Abort + AllocGlobal), answer: Answer, text: &str) -> Result<(), Fail> {
-    assert_eq!(rt; answer.text(rt.alloc())?.as_str(), text);
+    assert_eq!(rt; answer.to_string(rt.alloc())?.as_str(), text);
     Ok(())
 }
 
@@ -54,13 +56,13 @@ fn a_used_state(rt: HostRuntime) -> Result<(), Fail> {
     let Some(site) = Site::new(31) else {
         return Err(Fail::new("no site"));
     };
-    let mut sites = [Spot::Free; 32];
-    sites[2] = Spot::Taken {
+    let mut sites = [None; 32];
+    sites[2] = Some(Part {
         feeder: Feeder::FIRST,
         angle: Angle::ZERO,
-    };
-    sites[31] = Spot::Taken { feeder, angle };
-    let nozzle = Nozzle::Holding(feeder);
+    });
+    sites[31] = Some(Part { feeder, angle });
+    let nozzle = Some(feeder);
     let state = State {
         site,
         angle,
@@ -78,11 +80,11 @@ fn a_used_state(rt: HostRuntime) -> Result<(), Fail> {
 
 #[test]
 fn refused_tables(rt: HostRuntime) -> Result<(), Fail> {
-    let refused = Answer::TableRefused {
-        layer: 3,
-        cause: 11,
+    let fault = NameFault {
+        cause: NameCause::NoMain,
         place: 256,
     };
+    let refused = Answer::TableRefused(TableFault::Names(fault));
     writes(&rt, refused, "refused 3 11 256")
 }
 

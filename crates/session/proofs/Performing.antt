@@ -2,9 +2,9 @@
 use Rattle.std.proofs.Common.{◌≡◌, ℕ, Bool, true, false, List, [], ◌∷◌, ◌++◌, map, length, take, ℤ, IfOk, Some, None, Ok, Err, vec_items, Result, sym, refl, ap, ◌∙◌, subst, arith}
 use Rattle.std.proofs.lemmas.List.{append_assoc, map-append, take_all}
 use Rattle.bench.specs.Histories.{History}
+use Rattle.bench.specs.Ranges.{Angle}
 use Rattle.bench.specs.Reading.{state_under}
 use Rattle.bench.specs.SetUps.{SetsUp, TurnsBy}
-use Rattle.bench.specs.declared.angle.Angle.{Angle}
 use Rattle.bench.specs.declared.refusal.SetUpRefusal.{SetUpRefusal}
 use Rattle.bench.specs.declared.refusal.ShiftRefusal.{ShiftRefusal}
 use Rattle.bench.specs.declared.state.State.{State}
@@ -53,13 +53,13 @@ second_state true s t = refl
 second_state false s t = refl
 
 -- a bench that goes on after its set-up, and one that was turned
-pub plain_performs : (x : Section) (r : Result (Unit {0}) SetUpRefusal) (s : State) (before all : List Answer) → x.turn ≡ None → SetsUp x.counts r s →
+pub plain_performs : (x : Section) (r : Result (Unit {0}) SetUpRefusal) (s : State) (before all : List Answer) → x.turn ≡ None → SetsUp x.pairing.counts r s →
     before ≡ set_up_answer_of r ∷ [] → GoesOn x s before all → Performs x all
 plain_performs x r s before all e u b g =
     subst (Performs x) (sym (g.is ∙ ap (λ l. l ++ (g.answers ++ report x.state g.last)) b)) (plain e u g.history)
 
 pub turned_performs : (x : Section) (z : ℤ) (r : Result (Unit {0}) SetUpRefusal) (q : Result (Unit {0}) ShiftRefusal) (a : Angle) (s : State) (before all : List Answer) → x.turn ≡ Some z →
-    SetsUp x.counts r s → TurnsBy z q a → before ≡ set_up_answer_of r ∷ turn_answer_of q ∷ [] → GoesOn x (state_under a s) before all → Performs x all
+    SetsUp x.pairing.counts r s → TurnsBy z q a → before ≡ set_up_answer_of r ∷ turn_answer_of q ∷ [] → GoesOn x (state_under a s) before all → Performs x all
 turned_performs x z r q a s before all e u w b g =
     subst (Performs x) (sym (g.is ∙ ap (λ l. l ++ (g.answers ++ report x.state g.last)) b)) (turned e u w g.history)
 
@@ -70,7 +70,7 @@ same_from s s' t t' es rs rs' e a b = same_history Does one_answer s t t' es rs 
 -- a section has one answer to each event
 pub same_performance : (x : Section) (us vs : List Answer) → Performs x us → Performs x vs → us ≡ vs
 same_performance x us vs (plain {r = r} {s = s} {t = t} {rs = rs} e u a) (plain {r = r'} {s = s'} {t = t'} {rs = rs'} f v b) =
-    let set = same_set_up x.counts (r', s') (r, s) v u in
+    let set = same_set_up x.pairing.counts (r', s') (r, s) v u in
     let outcome : r ≡ r' = ap (λ (o : Setting). o.0) set in
     let end = same_from s s' t t' (vec_items x.events) rs rs' (ap (λ (o : Setting). o.1) set) a b in
     let replies : rs ≡ rs' = end.0 in
@@ -80,7 +80,7 @@ same_performance x us vs (plain e u a) (turned f v w b) = let o : ◌≡◌ {A =
 same_performance x us vs (turned e u w a) (plain f v b) = let o : ◌≡◌ {A = ℕ} 0 1 = cc in absurd (omega arith)
 same_performance x us vs (turned {z = z} {r = r} {q = q} {a = k} {s = s} {t = t} {rs = rs} e u w a) (turned {z = z'} {r = r'} {q = q'} {a = k'} {s = s'} {t = t'} {rs = rs'} f v y b) =
     let shift : z' ≡ z = cc in
-    let set = same_set_up x.counts (r', s') (r, s) v u in
+    let set = same_set_up x.pairing.counts (r', s') (r, s) v u in
     let turn = same_turn z (q', k') (q, k) (subst (λ n. TurnsBy n q' k') shift y) w in
     let outcome : r ≡ r' = ap (λ (o : Setting). o.0) set in
     let turned_so : q ≡ q' = ap (λ (o : Turning). o.0) turn in

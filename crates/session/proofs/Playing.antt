@@ -1,5 +1,5 @@
 -- One event at a time: what is answered is what the rules say, and only that.
-use Rattle.std.proofs.Common.{◌≡◌, ℕ, List, get_or, vec_items, Vec, sym, refl, ap, subst}
+use Rattle.std.proofs.Common.{◌≡◌, ℕ, List, get_or, vec_items, Vec, Ok, Err, Result, MatchResult, sym, refl, ap, subst}
 use Rattle.std.specs.declared.alloc.Global.{Global}
 use Rattle.bench.specs.Histories.{Deterministic}
 use Rattle.bench.specs.Responds.{Answer as Reply, Responds}
@@ -9,12 +9,15 @@ use Rattle.bench.proofs.Rules.{same_answer, same_after}
 use Rattle.language.specs.Refusals.{Refused}
 use Rattle.language.specs.WellFormed.{WellFormedBytes}
 use Rattle.language.proofs.Refusals.{refused_once, sound_accepted}
+use Rattle.table.specs.Faults.{fault_layer, fault_cause, fault_place}
+use Rattle.table.specs.declared.fault.TableFault.{TableFault}
 use Rattle.script.specs.declared.answer.Answer.{Answer}
 use Rattle.script.specs.declared.answer.Answer.TheVariants.{Done, TableRefused}
-use Rattle.session.specs.Answering.{reply}
+use Rattle.session.specs.Answering.{outcome, reply}
 use Rattle.session.specs.Events.{Does, accepts, refuses, jogs}
 use Rattle.session.specs.declared.event.Event.{Event}
 use Rattle.session.specs.declared.event.Event.TheVariants.{Load, Jog}
+use Rattle.session.proofs.Faults.{same_fault}
 
 -- one event is another
 pub event_is : (s t : Standing) (e d : Event) (a : Answer) → e ≡ d → Does s e a t → Does s d a t
@@ -24,13 +27,18 @@ event_is s t e d a is h = subst (λ x. Does s x a t) is h
 pub event_at : (s t : Standing) (es : List Event) (i : ℕ) (e : Event) (a : Answer) → Does s e a t → e ≡ get_or es i e → Does s (get_or es i e) a t
 event_at s t es i e a h is = event_is s t e (get_or es i e) a is h
 
+-- an outcome as an answer, by what the conversion says of its value and of its error
+pub by_outcome : {X E : Type 0} (f : X → Answer) (g : E → Answer) (r : Result X E) (a : Answer) → MatchResult r (λ x. a ≡ f x) (λ e. a ≡ g e) → a ≡ outcome f g r
+by_outcome f g (Ok x) a h = h
+by_outcome f g (Err e) a h = h
+
 pub accepted : (s : Standing) (e : Event) (v : Vec ℕ Global) (bs : List ℕ) → e ≡ Load v → bs ≡ vec_items v → WellFormedBytes bs → Does s e Done s
 accepted s e v bs is same h = event_is s s (Load v) e Done (sym is) (accepts (subst WellFormedBytes same h))
 
-pub refused : (s : Standing) (e : Event) (v : Vec ℕ Global) (bs : List ℕ) (l c p l' c' p' : ℕ) → e ≡ Load v → bs ≡ vec_items v → l ≡ l' → c ≡ c' → p ≡ p' → Refused bs l' c' p' → Does s e (TableRefused l c p) s
-refused s e v bs l c p l' c' p' is same el ec ep h =
-    let there : Refused bs l c p = subst (λ n. Refused bs n c p) (sym el) (subst (λ n. Refused bs l' n p) (sym ec) (subst (Refused bs l' c') (sym ep) h)) in
-    event_is s s (Load v) e (TableRefused l c p) (sym is) (refuses (subst (λ b. Refused b l c p) same there))
+pub refused : (s : Standing) (e : Event) (v : Vec ℕ Global) (bs : List ℕ) (f : TableFault) (a : Answer) → e ≡ Load v → bs ≡ vec_items v → a ≡ TableRefused f →
+    Refused bs (fault_layer f) (fault_cause f) (fault_place f) → Does s e a s
+refused s e v bs f a is same as-told h =
+    event_is s s (Load v) e a (sym is) (subst (λ b. Does s (Load v) b s) (sym as-told) (refuses (subst (λ b. Refused b (fault_layer f) (fault_cause f) (fault_place f)) same h)))
 
 pub jogged : (s t : Standing) (e : Event) (q : Request) (r : Reply) (a : Answer) → e ≡ Jog q → a ≡ reply r → Responds s q.operation q.number r t → Does s e a t
 jogged s t e q r a is as-told h = subst (λ d. Does s d a t) (sym is) (subst (λ b. Does s (Jog q) b t) (sym as-told) (jogs h))
@@ -39,11 +47,8 @@ pub one_answer : Deterministic Does
 one_answer s e a a' t t' (accepts h) (accepts k) = (refl, refl)
 one_answer s e a a' t t' (accepts h) (refuses k) = absurd (sound_accepted _ h _ _ _ k)
 one_answer s e a a' t t' (refuses h) (accepts k) = absurd (sound_accepted _ k _ _ _ h)
-one_answer s e a a' t t' (refuses {v = v} {l = l} {c = c} {p = p} h) (refuses {l = l'} {c = c'} {p = p'} k) =
-    let same = refused_once (vec_items v) l c p l' c' p' h k in
-    let el : l ≡ l' = same.0 in
-    let ec : c ≡ c' = same.1 in
-    let ep : p ≡ p' = same.2 in
-    (cc, refl)
+one_answer s e a a' t t' (refuses {v = v} {f = f} h) (refuses {f = g} k) =
+    let same = refused_once (vec_items v) _ _ _ _ _ _ h k in
+    (ap TableRefused (same_fault f g same.0 same.1 same.2), refl)
 one_answer s e a a' t t' (jogs {q = q} {r = r} h) (jogs {r = r'} k) =
     (ap reply (same_answer s q.operation q.number r r' t t' h k), same_after s q.operation q.number r r' t t' h k)

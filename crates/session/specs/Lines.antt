@@ -7,21 +7,21 @@ use Rattle.session.specs.declared.event.Event.{Event}
 use Rattle.session.specs.declared.event.Event.TheVariants as event
 
 abbrev pub turn_with : Line → Option ℤ → Option ℤ
-turn_with (Bench k l cs) t = t
+turn_with (Bench b) t = t
 turn_with (Turn z) t = Some z
 turn_with Load t = t
 turn_with (Jog q) t = t
 turn_with State t = t
 
 abbrev pub jogs_of : Line → List Event
-jogs_of (Bench k l cs) = []
+jogs_of (Bench b) = []
 jogs_of (Turn z) = []
 jogs_of Load = []
 jogs_of (Jog q) = event.Jog q ∷ []
 jogs_of State = []
 
 abbrev pub state_with : Line → Bool → Bool
-state_with (Bench k l cs) b = b
+state_with (Bench p) b = b
 state_with (Turn z) b = b
 state_with Load b = b
 state_with (Jog q) b = b

@@ -2,9 +2,9 @@
 -- and its state at the end if that is asked for.
 use Rattle.std.specs.Prelude.{◌≡◌, Bool, true, false, List, [], ◌∷◌, ◌++◌, ℤ, Some, None, vec_items, Result}
 use Rattle.bench.specs.Histories.{History}
+use Rattle.bench.specs.Ranges.{Angle}
 use Rattle.bench.specs.Reading.{state_under}
 use Rattle.bench.specs.SetUps.{SetsUp, TurnsBy}
-use Rattle.bench.specs.declared.angle.Angle.{Angle}
 use Rattle.bench.specs.declared.refusal.SetUpRefusal.{SetUpRefusal}
 use Rattle.bench.specs.declared.refusal.ShiftRefusal.{ShiftRefusal}
 use Rattle.bench.specs.declared.state.State.{State as Standing}
@@ -18,11 +18,11 @@ use Rattle.session.specs.declared.section.Section.{Section}
 pub data Performs (x : Section) : List Answer → Type 0 where
   -- a bench as it is set up
   plain : {r : Result (Unit {0}) SetUpRefusal} {s t : Standing} {rs : List Answer} →
-      x.turn ≡ None → SetsUp x.counts r s → History Does s (vec_items x.events) rs t →
+      x.turn ≡ None → SetsUp x.pairing.counts r s → History Does s (vec_items x.events) rs t →
       Performs x (set_up_answer_of r ∷ (rs ++ report x.state t))
   -- a turned bench
   turned : {z : ℤ} {r : Result (Unit {0}) SetUpRefusal} {q : Result (Unit {0}) ShiftRefusal} {a : Angle} {s t : Standing} {rs : List Answer} →
-      x.turn ≡ Some z → SetsUp x.counts r s → TurnsBy z q a → History Does (state_under a s) (vec_items x.events) rs t →
+      x.turn ≡ Some z → SetsUp x.pairing.counts r s → TurnsBy z q a → History Does (state_under a s) (vec_items x.events) rs t →
       Performs x (set_up_answer_of r ∷ turn_answer_of q ∷ (rs ++ report x.state t))
 
 -- the exchange of two states, where they are asked for

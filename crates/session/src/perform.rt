@@ -3,13 +3,16 @@ ghost use Rattle.bench.specs.SetUps.{SetsUp};
 ghost use Rattle.session.specs.Performs.{Performs, GoesOn, states};
 ghost use Rattle.session.specs.Plays.{first_answers, second_answers};
 
-use super::answering::{SetUp, set_up_answer, turn_answer};
 use super::exchange::Exchange;
 use super::play::play_both;
 use super::section::Section;
+use bench::SetUpRefusal;
 use benches::{Inspect, LogBench, SiteBench, TurnedBench};
 use script::{Answer, Kind};
 use std::alloc::{AllocError, Global};
+
+/// A bench just set up, and the outcome of that.
+type SetUp<B> = (B, Result<(), SetUpRefusal>);
 
 impl Section {
     /// Performs the section on two benches of the kinds that it names, and tells what both answered
@@ -19,8 +22,8 @@ impl Section {
         ensures second { IfOk result (λ v. Performs self.now (second_answers v.items)) }
         ensures alike { IfOk result (λ v. first_answers v.items ≡ second_answers v.items) }
     {
-        let counts = self.counts;
-        match (self.first, self.second) {
+        let counts = self.pairing.counts;
+        match (self.pairing.first, self.pairing.second) {
             (Kind::Site, Kind::Site) => self.perform_on(
                 heap,
                 SiteBench::set_up(counts),
@@ -51,16 +54,16 @@ impl Section {
         first: SetUp<P>,
         second: SetUp<Q>,
     ) -> Result<Vec<Exchange>, AllocError>
-        requires first { SetsUp self.now.counts first.1 (P.Bench.state first.0) }
-        requires second { SetsUp self.now.counts second.1 (Q.Bench.state second.0) }
+        requires first { SetsUp self.now.pairing.counts first.1 (P.Bench.state first.0) }
+        requires second { SetsUp self.now.pairing.counts second.1 (Q.Bench.state second.0) }
         ensures first { IfOk result (λ v. Performs self.now (first_answers v.items)) }
         ensures second { IfOk result (λ v. Performs self.now (second_answers v.items)) }
     {
         let (first, first_outcome) = first;
         let (second, second_outcome) = second;
         let set_up = Exchange {
-            first: set_up_answer(first_outcome),
-            second: set_up_answer(second_outcome),
+            first: first_outcome.into(),
+            second: second_outcome.into(),
         };
         let Some(shift) = self.turn else {
             return self.go_on(heap, first, second, vec![in heap; set_up]?);
@@ -68,8 +71,8 @@ impl Section {
         let (first, first_outcome) = TurnedBench::new(first, shift);
         let (second, second_outcome) = TurnedBench::new(second, shift);
         let turn = Exchange {
-            first: turn_answer(first_outcome),
-            second: turn_answer(second_outcome),
+            first: first_outcome.into(),
+            second: second_outcome.into(),
         };
         self.go_on(heap, first, second, vec![in heap; set_up, turn]?)
     }
@@ -92,18 +95,10 @@ impl Section {
         };
         let mut slots = vec![in heap; unanswered; self.events.len()]?;
         play_both(&mut first, &mut second, &self.events, &mut slots);
-        let exchanges = with_answers(before, &slots)?;
+        let mut exchanges = before;
+        exchanges.extend_from_slice(&slots)?;
         with_states(exchanges, self.state, &first, &second)
     }
-}
-
-/// Adds exchanges to those before.
-fn with_answers(before: Vec<Exchange>, slots: &[Exchange]) -> Result<Vec<Exchange>, AllocError>
-    ensures { IfOk result (λ v. v.items ≡ before.items ++ slots.now) }
-{
-    let mut exchanges = before;
-    exchanges.extend_from_slice(slots)?;
-    Ok(exchanges)
 }
 
 /// Adds the states of both benches to what was answered before, if they are asked for.
@@ -118,8 +113,8 @@ fn with_states<P: Inspect, Q: Inspect>(
     let mut exchanges = before;
     if asked {
         exchanges.push(Exchange {
-            first: Answer::State(first.snapshot()),
-            second: Answer::State(second.snapshot()),
+            first: first.snapshot().into(),
+            second: second.snapshot().into(),
         })?;
     }
     Ok(exchanges)

@@ -16,9 +16,9 @@ pub fn play_both<P: Bench, Q: Bench>(
 )
     ensures { BothPlayed events.now slots.old slots.new (P.Bench.state first.old) (Q.Bench.state second.old) (P.Bench.state first.new) (Q.Bench.state second.new) }
 {
-    let count = events.len().min(slots.len());
-    for i in 0..count {
-        let event = &events[i];
+    let given = &events[..events.len().min(slots.len())];
+    // by index: of slots written through `iter_mut().zip(..)` the check knows nothing yet
+    for (i, event) in given.iter().enumerate() {
         slots[i] = Exchange {
             first: answer(first, event),
             second: answer(second, event),

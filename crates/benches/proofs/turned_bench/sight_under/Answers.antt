@@ -11,7 +11,7 @@ pub returns-in-Some : goal.returns-in-Some
 returns-in-Some c = λ p e.
     let is : angle_at (rem_z c.args.seen (pos full_turn)) ≡ Some c.in-Some.angle = search rules in
     let there = sight_taken c.args.shift c.in-Some.angle p c.args.seen e is in
-    let angle : c.hundredths.result ≡ (read_under c.args.shift c.in-Some.angle).hundredths = search rules in
+    let angle : c.get.result ≡ (read_under c.args.shift c.in-Some.angle).value = search rules in
     search (rules, there)
 
 pub returns-in-None : goal.returns-in-None

@@ -1,4 +1,5 @@
-use Rattle.std.proofs.Common.{◌≡◌, ◌<◌, ◌≤◌, min, length, refl, ◌∙◌, arith, length-set, rules}
+use Rattle.std.proofs.Common.{◌≡◌, ◌<◌, ◌≤◌, min, length, get_or, refl, ◌∙◌, arith, length-set}
+use Rattle.std.proofs.lemmas.List.{get_or-take, length-take}
 use Rattle.bench.specs.Histories.History.{done}
 use Rattle.bench.proofs.Histories.{history_more, history_all, agreement, dropped_more, dropped_on}
 use Rattle.session.specs.Events.{Does}
@@ -14,12 +15,16 @@ loop-i-preserved g c =
     let es = c.args.events.now in
     let slots = c.loop-i.slots in
     let i = c.loop-i.i in
+    let e = c.index-given-i.result in
     let x : Exchange = record { first = c.answer.result; second = c.answer-in-loop-i.result } in
-    let he : i < length es = search rules in
-    let hs : i < length slots = search rules in (
+    let given = length-take c.min.result es in
+    let within : i < c.min.result = omega arith in
+    let he : i < length es = omega arith in
+    let hs : i < length slots = omega arith in
+    let here : e ≡ get_or es i e = c.index-given-i.is ∙ get_or-take c.min.result es i e within in (
       length-set slots i x ∙ c.loop-i.invariant.0,
-      history_more Does (λ y. y.first) es slots i _ x _ _ _ he hs c.loop-i.invariant.1 (event_at _ _ es i _ _ c.answer.ensures (search rules)),
-      history_more Does (λ y. y.second) es slots i _ x _ _ _ he hs c.loop-i.invariant.2 (event_at _ _ es i _ _ c.answer-in-loop-i.ensures (search rules)),
+      history_more Does (λ y. y.first) es slots i e x _ _ _ he hs c.loop-i.invariant.1 (event_at _ _ es i e _ c.answer.ensures here),
+      history_more Does (λ y. y.second) es slots i e x _ _ _ he hs c.loop-i.invariant.2 (event_at _ _ es i e _ c.answer-in-loop-i.ensures here),
       dropped_more slots c.args.slots.now i x c.loop-i.invariant.3,
     )
 
@@ -30,7 +35,8 @@ returns g c =
     let i = c.loop-i.i in
     let n = length c.args.slots.now in
     let long : length slots ≡ n = c.loop-i.invariant.0 in
-    let end : i ≡ min (length es) n = search rules in
+    let given = length-take c.min.result es in
+    let end : i ≡ min (length es) n = omega arith in
     let past : i ≤ length es = omega arith in
     let first = history_all Does (λ y. y.first) es slots i n _ _ end long c.loop-i.invariant.1 in
     let second = history_all Does (λ y. y.second) es slots i n _ _ end long c.loop-i.invariant.2 in

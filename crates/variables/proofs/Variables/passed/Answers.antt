@@ -16,18 +16,3 @@ loop-place-preserved c =
     ap (λ v. set c.loop-place.values i v) (same ∙ next) ∙ ap (λ vs. set vs i (get_or (map f ys) i (pos 0))) c.loop-place.invariant
     ∙ one_more (map f ys) i (subst (λ n. i < n) (sym long) c.loop-place-test.true) (subst (λ n. n ≤ variable_count) (sym long) c.requires)
 
-pub returns : goal.returns
-returns c =
-    let ys = c.args.arguments.now in
-    let f = value c.args.self.now.values in
-    done _ (map f ys) _ c.loop-place.invariant (subst (λ n. n ≤ c.loop-place.place) (sym (length-map ys f)) c.loop-place-test.false)
-
-pub invariant_of-result : goal.invariant_of-result
-invariant_of-result c =
-    let ys = c.args.arguments.now in
-    let f = value c.args.self.now.values in
-    let long = sym (length-map ys f) in
-    record {
-      long = ap length (done _ (map f ys) _ c.loop-place.invariant (subst (λ n. n ≤ c.loop-place.place) long c.loop-place-test.false))
-          ∙ full (map f ys) (subst (λ n. n ≤ variable_count) long c.requires);
-    }

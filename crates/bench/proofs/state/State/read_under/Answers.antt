@@ -1,11 +1,9 @@
-use Rattle.std.proofs.Common.{rules}
-use Rattle.std.proofs.lemmas.List.Edits.{map_over_more}
-use Rattle.std.proofs.lemmas.List.{take_all, drop_all, append-nil}
+use Rattle.std.proofs.Common.{◌≡◌, map, rules}
 use Rattle.bench.specs.Reading.{spot_under}
+use Rattle.bench.proofs.Mapping.{mapped}
 use Rattle.bench.proofs.state.State.read_under.Goals as goal
 
-pub loop-spot-preserved : goal.loop-spot-preserved
-loop-spot-preserved c = search (rules, map_over_more (spot_under c.args.shift))
-
 pub returns : goal.returns
-returns c = search (rules, take_all, drop_all, append-nil)
+returns c =
+    let same : c.map.result ≡ map (spot_under c.args.shift) c.args.self.sites = mapped _ (spot_under c.args.shift) _ (λ x y q k. search rules) _ _ _ (search rules) c.map.ensures.items in
+    search (rules, same)

@@ -5,9 +5,6 @@ use Rattle.direct.proofs.machine.Machine.branch.Goals as goal
 use Rattle.direct.specs.Machines.{state_of}
 use Rattle.direct.specs.Programs.{records_in}
 
-pub link-link-requires : goal.link-link-requires
-link-link-requires c = let p = c.args.program.now in at_below (records_in p) (formed p) (state_of c.args.self.now) c.requires.reached
-
 pub returns-then-get : goal.returns-then-get
 returns-then-get c b =
     let p = c.args.program.now in

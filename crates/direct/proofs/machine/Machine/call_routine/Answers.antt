@@ -8,9 +8,6 @@ use Rattle.direct.specs.Programs.{records_in}
 use Rattle.language.proofs.Lists.{all_nth}
 use Rattle.language.specs.Bytes.{InRange}
 
-pub link-at-requires : goal.link-at-requires
-link-at-requires c = let p = c.args.program.now in at_below (records_in p) (formed p) (state_of c.args.self.now) c.requires.reached
-
 -- as many arguments as there are places for
 few : (c : After-from) → c.from.result ≤ length c.args.arguments
 few c =

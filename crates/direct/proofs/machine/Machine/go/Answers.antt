@@ -8,9 +8,6 @@ use Rattle.direct.specs.Programs.{records_in}
 pub loop-made-init : goal.loop-made-init
 loop-made-init g c = none_yet (records_in c.args.program.now) (state_of c.args.self.now) _ c.requires
 
-pub beat-requires : goal.beat-requires
-beat-requires g c = c.loop-made.invariant.reached
-
 pub returns-in-Err : goal.returns-in-Err
 returns-in-Err g c =
     let p = c.args.program.now in

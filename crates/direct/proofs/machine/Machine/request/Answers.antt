@@ -5,9 +5,6 @@ use Rattle.direct.proofs.machine.Machine.request.Goals as goal
 use Rattle.direct.specs.Machines.{state_of}
 use Rattle.direct.specs.Programs.{records_in}
 
-pub assign-requires : goal.assign-requires
-assign-requires g c = low c.args.program.now (state_of c.args.self.now) c.requires.reached
-
 pub returns-in-Ok : goal.returns-in-Ok
 returns-in-Ok g c =
     by_answer (records_in c.args.program.now) (state_of c.args.self.now) _ _ c.args.x c.args.operation c.args.y c.requires.here c.request.result

@@ -6,12 +6,6 @@ use Rattle.direct.specs.Programs.{records_in, LinkAt}
 use Rattle.direct.specs.declared.link.Link.{Link}
 use Rattle.few.specs.Held.{held}
 
-pub bounds-as_slice-from : goal.bounds-as_slice-from
-bounds-as_slice-from c =
-    let p = c.args.self.now in
-    let k = known_linked (records_in p) (held p.links) p.linked in
-    omega (arith, ap length c.as_slice.ensures, k.long, c.from.ensures, c.requires)
-
 pub returns : goal.returns
 returns c =
     let p = c.args.self.now in

@@ -1,17 +1,27 @@
-use Rattle.script.proofs.Ordering.{alone, begun, turned, loaded, jogged, ended}
+use Rattle.std.proofs.Common.{rules}
+use Rattle.script.proofs.Ordering.{begun, turned, loaded, jogged, ended, opened, within}
 use Rattle.script.proofs.position.Position.after.Goals as goal
 
-pub returns-in-Bench : goal.returns-in-Bench
-returns-in-Bench c = record { next = begun _ _ _ _ _ c.in-Bench.is; wants = tt; alone = alone _ _ }
+pub returns-in-Bench-default-clause-next : goal.returns-in-Bench-default-clause-next
+returns-in-Bench-default-clause-next c = begun _ _ _ c.in-Bench-default.is-0
 
-pub returns-in-Turn : goal.returns-in-Turn
-returns-in-Turn c = let o = turned _ _ _ _ c.in-Turn.is c.right_after_bench.ensures in record { next = o.next; wants = o.wants; alone = alone _ _ }
+pub returns-in-Turn-Opened-clause-next : goal.returns-in-Turn-Opened-clause-next
+returns-in-Turn-Opened-clause-next c = turned _ _ _ c.in-Turn-Opened.is-0 c.in-Turn-Opened.is-1
 
-pub returns-in-Load : goal.returns-in-Load
-returns-in-Load c = let o = loaded _ _ _ c.in-Load.is c.in_section.ensures in record { next = o.next; wants = o.wants; alone = alone _ _ }
+pub returns-in-Load-Opened-clause-next : goal.returns-in-Load-Opened-clause-next
+returns-in-Load-Opened-clause-next c = search (rules, loaded, opened)
 
-pub returns-in-Jog : goal.returns-in-Jog
-returns-in-Jog c = let o = jogged _ _ _ _ c.in-Jog.is c.in_section-in-Jog.ensures in record { next = o.next; wants = o.wants; alone = alone _ _ }
+pub returns-in-Load-Opened-2-clause-next : goal.returns-in-Load-Opened-2-clause-next
+returns-in-Load-Opened-2-clause-next c = search (rules, loaded, within)
 
-pub returns-in-State : goal.returns-in-State
-returns-in-State c = let o = ended _ _ _ c.in-State.is c.in_section-in-State.ensures in record { next = o.next; wants = o.wants; alone = alone _ _ }
+pub returns-in-Jog-Opened-clause-next : goal.returns-in-Jog-Opened-clause-next
+returns-in-Jog-Opened-clause-next c = search (rules, jogged, opened)
+
+pub returns-in-Jog-Opened-2-clause-next : goal.returns-in-Jog-Opened-2-clause-next
+returns-in-Jog-Opened-2-clause-next c = search (rules, jogged, within)
+
+pub returns-in-State-Opened-clause-next : goal.returns-in-State-Opened-clause-next
+returns-in-State-Opened-clause-next c = search (rules, ended, opened)
+
+pub returns-in-State-Opened-2-clause-next : goal.returns-in-State-Opened-2-clause-next
+returns-in-State-Opened-2-clause-next c = search (rules, ended, within)

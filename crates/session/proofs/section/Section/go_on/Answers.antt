@@ -17,7 +17,7 @@ returns g c =
     let long : length unfilled ≡ length es = search rules in
     let kept : length slots ≡ length unfilled = search rules in
     let told : c.deref-2.result.now ≡ slots = search (rules, with_items_is) in
-    let before : vec_items c.in_ok-exchanges.exchanges ≡ vec_items c.args.before ++ slots = c.in_ok-exchanges.ensures ∙ ap (λ l. vec_items c.args.before ++ l) told in
+    let before : vec_items c.extend_from_slice.new.self ≡ vec_items c.args.before ++ slots = (search rules) ∙ ap (λ l. vec_items c.args.before ++ l) told in
     let extra = states x.state s t in
     record {
       first = IfOk-weaker _ _ _ (λ v is. goes_on x _ s (λ e. e.first) es slots unfilled (vec_items c.args.before) extra (vec_items v)

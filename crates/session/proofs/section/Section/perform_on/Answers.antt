@@ -31,8 +31,8 @@ returns g c =
     let same = to_z-of_z w32 z fits in
     let first-turn = subst (λ n. TurnsBy n c.new-first.result.1 c.new-first.result.0.shift) same c.new-first.ensures.shift in
     let second-turn = subst (λ n. TurnsBy n c.new-second.result.1 c.new-second.result.0.shift) same c.new-second.ensures.shift in
-    let first-set = subst (λ b. SetsUp x.counts c.args.first.1 (g.P.Bench.state b)) (sym c.new-first.ensures.below) c.requires.first in
-    let second-set = subst (λ b. SetsUp x.counts c.args.second.1 (g.Q.Bench.state b)) (sym c.new-second.ensures.below) c.requires.second in
+    let first-set = subst (λ b. SetsUp x.pairing.counts c.args.first.1 (g.P.Bench.state b)) (sym c.new-first.ensures.below) c.requires.first in
+    let second-set = subst (λ b. SetsUp x.pairing.counts c.args.second.1 (g.Q.Bench.state b)) (sym c.new-second.ensures.below) c.requires.second in
     record {
       first = IfOk-weaker _ _ _ (λ v. turned_performs x z _ _ _ _ (first_answers before) (first_answers (vec_items v)) by first-set first-turn first) c.go_on-2.ensures.first;
       second = IfOk-weaker _ _ _ (λ v. turned_performs x z _ _ _ _ (second_answers before) (second_answers (vec_items v)) by second-set second-turn second) c.go_on-2.ensures.second;

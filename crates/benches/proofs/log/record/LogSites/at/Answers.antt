@@ -1,23 +1,21 @@
-use Rattle.std.proofs.Common.{◌<◌, length, sym, ◌∙◌, arith}
-use lib.ListN.{get_or-replicate}
+use Rattle.std.proofs.Common.{◌≡◌, None, reverse, ◌∙◌, sym, ap, rules}
+use Rattle.std.proofs.lemmas.List.{get_or-replicate}
+use Rattle.std.specs.List.{find}
 use Rattle.bench.specs.Bounds.{site_count}
-use Rattle.bench.specs.declared.spot.Spot.TheVariants.{Free}
-use Rattle.benches.specs.LaidLemmas.{read_here, read_on}
+use Rattle.std.specs.Option.{option_map}
+use Rattle.std.proofs.lemmas.Iterator.Search.{find_from_yields_List}
+use Rattle.std.proofs.lemmas.Iterator.Adapters.{YieldsList-from_rev_slice}
+use Rattle.few.specs.Held.{held}
+use Rattle.benches.specs.Spots.{all_free}
+use Rattle.benches.proofs.Found.{on, found_or, found}
 use Rattle.benches.proofs.log.record.LogSites.at.Goals as goal
-use Rattle.benches.proofs.log.record.LogSites.at.Goals.{then-index, else-index}
 
-pub loop-i-init : goal.loop-i-init
-loop-i-init c = sym (get_or-replicate site_count c.args.site.index Free Free c.args.site.within)
-
-pub loop-i-preserved : goal.loop-i-preserved
-loop-i-preserved c =
-    let l = c.args.self.now in
-    let i = c.loop-i.i in
-    let d = c.index-self-i.result in
-    let within : i < length l.placements = omega (arith, l.all, l.bound) in
-    let there = c.index.ensures in
-    let here = c.index-in-loop-i.ensures in
-    elim c.if-index.branch [
-      | then-index w ↦ w.spot-is ∙ read_here i c.args.site.index l.placements d within c.args.site.within (sym there ∙ w.if-index.true ∙ here)
-      | else-index w ↦ w.spot-is ∙ c.loop-i.invariant ∙ read_on i c.args.site.index l.placements d within (λ e. w.if-index.false (there ∙ e ∙ sym here))
-    ]
+pub returns : goal.returns
+returns c =
+    let ps = held c.args.self.now.placements in
+    let got = find_from_yields_List (on c.args.site.value) _ _ c.find.result c.find.ensures.ran (YieldsList-from_rev_slice ps (search rules)) (λ x b q k. search rules) in
+    let part : c.map.result ≡ found_or None (option_map (λ x. x.now) c.find.result) = search rules in
+    part
+    ∙ ap (found_or None) got
+    ∙ ap (λ was. found_or was (find (on c.args.site.value) (reverse ps))) (sym (get_or-replicate site_count c.args.site.value None None c.args.site.within))
+    ∙ found c.args.site.value ps all_free c.args.site.within

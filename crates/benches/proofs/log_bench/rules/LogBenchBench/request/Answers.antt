@@ -1,6 +1,0 @@
-use Rattle.bench.proofs.Validity.{left_valid}
-use Rattle.benches.specs.StandsLemmas.{log_bench_valid}
-use Rattle.benches.proofs.log_bench.rules.LogBenchBench.request.Goals as goal
-
-pub invariant_of-self : goal.invariant_of-self
-invariant_of-self c = record { few = (left_valid _ c.args.request.operation c.args.request.number _ (log_bench_valid c.args.self.now) c.serve.ensures.after).few }
