@@ -2,7 +2,7 @@ ghost use Rattle.std.specs.Prelude.{◌≡◌, Bool, Decides};
 ghost use Rattle.table.specs.Lookup.{Finds, Gets};
 
 /// What can be looked up by a key.
-pub trait Entry: Copy {
+pub trait Entry {
     type Key: PartialEq + Drop;
 
     /// The key that an entry has.
@@ -23,7 +23,7 @@ pub fn find<E: Entry>(entries: &[E], key: &E::Key) -> Option<usize>
 }
 
 /// The first entry with the key, if one has it.
-pub fn first<E: Entry>(entries: &[E], key: &E::Key) -> Option<E>
+pub fn first<E: Entry + Copy>(entries: &[E], key: &E::Key) -> Option<E>
     ensures { Gets (λ e. E.keyed e ≡ key.now) entries.now result }
 {
     find(entries, key).map(|at| entries[at])

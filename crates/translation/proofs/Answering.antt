@@ -1,5 +1,5 @@
 -- From the parts of the translation to its answer.
-use Rattle.std.proofs.Common.{◌≡◌, ℕ, ◌*◌, ◌<◌, ◌≤◌, List, length, Ok, Err, ap, ◌∙◌, arith}
+use Rattle.std.proofs.Common.{◌≡◌, ℕ, ◌*◌, ◌<◌, ◌≤◌, List, length, Ok, Err, ap, arith}
 use Rattle.language.specs.declared.record.Record.{Record}
 use Rattle.language.specs.Code.{code}
 use Rattle.language.specs.Translation.{translation}
@@ -8,8 +8,7 @@ use Rattle.language.proofs.Near.{refused_near}
 use Rattle.language.proofs.Sizes.{held}
 use Rattle.translation.specs.declared.fault.TranslationFault.{TranslationFault}
 use Rattle.translation.specs.declared.fault.TranslationFault.TheVariants.{Table, Short}
-use Rattle.translation.specs.Answers.{Written, Unwritten, Answers}
-use Rattle.translation.specs.Buffers.{over}
+use Rattle.translation.specs.Answers.{Unwritten, Answers}
 use Rattle.translation.specs.Numbers.{refusal_place}
 
 -- the records as they were read are those of the table
@@ -19,9 +18,6 @@ module _ (t u : List Record) (same : u ≡ t) (formed : WellFormed t) (out : Lis
 
   pub too_short : (out' : List ℕ) → length out < 8 * length (translation u) → out' ≡ out → Unwritten t out out'
   too_short out' l e = record { short = omega (arith, code_long); same = e }
-
-  pub written : (out' : List ℕ) (n : ℕ) → 8 * length (translation u) ≤ length out → n ≡ length (code u) → out' ≡ over (code u) out → Written t out out' n
-  written out' n l c e = record { room = omega (arith, code_long); after = e ∙ ap (λ v. over (code v) out) same; count = c ∙ ap (λ v. length (code v)) same }
 
 -- what is written is not long, and a refusal's place is near
 pub answer_low : (bs out out' : List ℕ) (n : ℕ) → Answers bs out out' (Ok n) → n ≤ 7808

@@ -1,25 +1,12 @@
 -- One run of bytes written after another.
-use Rattle.std.proofs.Common.{◌≡◌, ℕ, zero, suc, ◌+◌, ◌<◌, ◌≤◌, List, [], ◌∷◌, ◌++◌, length, get_or, take, drop, pos, sym, ap, ◌∙◌, append_assoc, append-nil, add-zero, arith, length-append, drop-drop, take_all}
-use lib.Seq.{take-append_seam, drop-append-add}
+use Rattle.std.proofs.Common.{◌≡◌, ℕ, zero, suc, ◌+◌, List, [], ◌∷◌, ◌++◌, pos, sym, ap, ◌∙◌, append_assoc, append-nil, add-zero, arith, length-append}
 use Rattle.std.specs.List.{flat_map}
-use Rattle.std.proofs.lemmas.List.{flat_map_more, take_more}
+use Rattle.std.proofs.lemmas.List.{flat_map_more}
 use Rattle.language.specs.declared.operation.Operation.TheVariants.{Set}
 use Rattle.language.specs.declared.word.Word.{Word}
 use Rattle.language.specs.Code.{word_bytes}
 use Rattle.language.specs.Translation.{small, clears}
 use Rattle.translation.specs.Buffers.{over, Appends}
-
--- one run of bytes that replaces others of its length
-pub put_appends : (at n : ℕ) (bs out out' : List ℕ) → n ≡ length bs → out' ≡ take at out ++ (bs ++ drop (at + n) out) → Appends at bs out out' (at + n)
-put_appends at n bs out out' e f = record { next = ap (λ k. at + k) e; after = by }
-  where
-    by : (front base : List ℕ) → at ≡ length front → out ≡ over front base → out' ≡ over (front ++ bs) base
-    by front base a o =
-        let m = length front in
-        let head : take at out ≡ front = (λ i. take (a i) (o i)) ∙ take-append_seam front (drop m base) in
-        let tail : drop (at + n) out ≡ drop (length (front ++ bs)) base =
-        (λ i. drop (a i + n) (o i)) ∙ drop-append-add front (drop m base) n ∙ drop-drop n m base ∙ ap (λ k. drop k base) (ap (λ k. m + k) e ∙ sym (length-append front bs)) in
-        f ∙ (λ i. head i ++ (bs ++ tail i)) ∙ sym (append_assoc front bs (drop (length (front ++ bs)) base))
 
 pub none_appends : (at : ℕ) (out : List ℕ) → Appends at [] out out at
 none_appends at out = record { next = sym (add-zero at); after = λ front base a o. o ∙ ap (λ f. over f base) (sym (append-nil front)) }
@@ -32,12 +19,6 @@ then_appends at m r bs cs out out' out'' p q = record {
 
 -- the words of a list, by one more at its end or at its front
 module _ (at : ℕ) (out : List ℕ) where
-  pub word_appends : (w : Word) (out' : List ℕ) (r : ℕ) → Appends at (word_bytes w) out out' r → Appends at (flat_map word_bytes (w ∷ [])) out out' r
-  word_appends w out' r p = rw (append-nil (word_bytes w)) p
-
-  pub words_append : (w : Word) (ws : List Word) (out' out'' : List ℕ) (m r : ℕ) → Appends at (word_bytes w) out out' m → Appends m (flat_map word_bytes ws) out' out'' r → Appends at (flat_map word_bytes (w ∷ ws)) out out'' r
-  words_append w ws out' out'' m r p q = then_appends at m r (word_bytes w) (flat_map word_bytes ws) out out' out'' p q
-
   pub more_appends : (ws : List Word) (w : Word) (out' out'' : List ℕ) (m r : ℕ) → Appends at (flat_map word_bytes ws) out out' m → Appends m (word_bytes w) out' out'' r → Appends at (flat_map word_bytes (ws ++ w ∷ [])) out out'' r
   more_appends ws w out' out'' m r p q = rw (← flat_map_more word_bytes [] ws w) (then_appends at m r (flat_map word_bytes ws) (word_bytes w) out out' out'' p q)
 
@@ -48,13 +29,6 @@ clears_more p (suc q) =
     let e : suc q + 1 ≡ suc (q + 1) = omega arith in
     let f : suc p + q ≡ p + suc q = omega arith in
     ap (clears p) e ∙ ap (λ ws. small (Set p (pos 0)) ∷ ws) (clears_more (suc p) q ∙ ap (λ n. clears (suc p) q ++ small (Set n (pos 0)) ∷ []) f)
-
--- a word more of a list that is written one by one, and all of them
-pub next_appends : (at m r i : ℕ) (ws : List Word) (d : Word) (out out' out'' : List ℕ) → i < length ws → Appends at (flat_map word_bytes (take i ws)) out out' m → Appends m (word_bytes (get_or ws i d)) out' out'' r → Appends at (flat_map word_bytes (take (i + 1) ws)) out out'' r
-next_appends at m r i ws d out out' out'' l a b = let e = take_more ws i d l in rw e (more_appends at out (take i ws) (get_or ws i d) out' out'' m r a b)
-
-pub all_append : (at m i : ℕ) (ws : List Word) (out out' : List ℕ) → length ws ≤ i → Appends at (flat_map word_bytes (take i ws)) out out' m → Appends at (flat_map word_bytes ws) out out' m
-all_append at m i ws out out' l a = let e = take_all i ws l in rw e at a
 
 -- a word for each local, one more
 pub clears_append : (p q at m r : ℕ) (out out' out'' : List ℕ) (w : Word) → w ≡ small (Set (p + q) (pos 0)) → Appends at (flat_map word_bytes (clears p q)) out out' m → Appends m (word_bytes w) out' out'' r → Appends at (flat_map word_bytes (clears p (q + 1))) out out'' r

@@ -14,8 +14,8 @@ use Rattle.language.proofs.Sizes.{length-translation, total_few}
 use Rattle.translation.specs.declared.addresses.Addresses.{Addresses}
 use Rattle.scopes.specs.declared.scope.Scope.{Scope}
 use Rattle.translation.specs.Addressing.{Addressed}
-use Rattle.scopes.specs.Scopes.{nowhere, scope_at}
-use Rattle.scopes.proofs.Scoped.{Under, under_start, under_next}
+use Rattle.scopes.specs.Scopes.{scope_at}
+use Rattle.scopes.proofs.Scoped.{Under, under_next}
 
 -- those of the first i records are known
 pub record Collected (t : List Record) (i : ℕ) (c : Scope) (os : List ℕ) (w : ℕ) : Type 0 where
@@ -23,9 +23,6 @@ pub record Collected (t : List Record) (i : ℕ) (c : Scope) (os : List ℕ) (w 
   pub long : length os ≡ i
   pub each : (k : ℕ) → k < i → get_or os k 0 ≡ address t k
   pub so_far : w ≡ address t i
-
-pub none_yet : (t : List Record) (c : Scope) (os : List ℕ) (w : ℕ) → c ≡ nowhere → os ≡ [] → w ≡ 0 → Collected t 0 c os w
-none_yet t c os w e l z = record { under = under_start t c e; long = ap length l; each = λ k f. absurd (omega arith); so_far = z }
 
 -- no address is beyond the whole
 total_front : (ls : List Line) (i : ℕ) → total (take i ls) ≤ total ls

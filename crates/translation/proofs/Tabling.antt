@@ -10,10 +10,10 @@ use Rattle.language.proofs.Lists.{clash}
 use Rattle.language.proofs.Lines.{length-lines}
 use Rattle.scopes.specs.declared.scope.Scope.{Scope}
 use Rattle.translation.specs.Buffers.{over, Appends}
-use Rattle.scopes.specs.Scopes.{nowhere, scope_at}
-use Rattle.translation.proofs.Appending.{none_appends, then_appends}
+use Rattle.scopes.specs.Scopes.{scope_at}
+use Rattle.translation.proofs.Appending.{then_appends}
 use Rattle.translation.proofs.Collecting.{address_more, address_below}
-use Rattle.scopes.proofs.Scoped.{Under, under_start, under_next}
+use Rattle.scopes.proofs.Scoped.{Under, under_next}
 
 joined_next : {X Y : Type 0} (f : X → List Y) (xs : List X) (i : ℕ) (x : X) → slice_get xs i ≡ Some x → flat_map f (take (suc i) xs) ≡ flat_map f (take i xs) ++ f x
 joined_next f [] i x e = clash (cc)
@@ -28,9 +28,6 @@ pub record Tabled (t : List Record) (i : ℕ) (c : Scope) (at : ℕ) (out out' :
   pub under : Under t i c
   pub place : at ≡ 8 * address t i
   pub appends : Appends 0 (front_code t i) out out' at
-
-pub tabled_start : (t : List Record) (c : Scope) (out : List ℕ) → c ≡ nowhere → Tabled t 0 c 0 out out
-tabled_start t c out e = record { under = under_start t c e; place = refl; appends = none_appends 0 out }
 
 module _ (t : List Record) (i : ℕ) (c c' : Scope) (x : Record) (at : ℕ) (out out' : List ℕ) (so_far : Tabled t i c at out out') (on : slice_get t i ≡ Some x) (is : c' ≡ scope_at c x) where
   pub record_room : (n : ℕ) → 8 * length (translation t) ≤ n → at + 8 * size c'.handler x ≤ n

@@ -1,6 +1,6 @@
 //! The lowest name cause at one record, by the entries of the table's headings.
 
-ghost use Rattle.std.specs.Prelude.{◌≡◌, None, Decides};
+ghost use Rattle.std.specs.Prelude.{◌≡◌, ℕ, None, Decides};
 ghost use Rattle.few.specs.Held.{held};
 ghost use Rattle.language.specs.Causes.{Any};
 ghost use Rattle.language.specs.Forms.{named_labels};
@@ -24,7 +24,7 @@ impl Index {
             }
             Record::Routine { .. } => None,
             Record::Block { label, handler } => self.block_flaw(scope, place, label, handler),
-            Record::Body(i) => self.body_flaw(scope, place, i),
+            Record::Body(i) => self.body_flaw(scope, i),
         }
     }
 
@@ -52,8 +52,8 @@ impl Index {
     }
 
     /// The lowest cause at an instruction.
-    fn body_flaw(&self, scope: Scope, place: usize, i: Instruction) -> Option<NameCause>
-        ensures { Flawed (held self.now.routines) (held self.now.blocks) scope place (Body i) result }
+    fn body_flaw(&self, scope: Scope, i: Instruction) -> Option<NameCause>
+        ensures { (place : ℕ) → Flawed (held self.now.routines) (held self.now.blocks) scope place (Body i) result }
     {
         if is_outside(scope.variables, i) {
             return Some(NameCause::NoVariable);

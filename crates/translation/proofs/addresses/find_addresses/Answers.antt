@@ -1,18 +1,10 @@
-use Rattle.std.proofs.Common.{◌+◌, ◌<◌, ◌≤◌, length, get_or, refl, arith, rules}
+use Rattle.std.proofs.Common.{◌+◌, ◌≤◌, get_or, arith, rules}
 use Rattle.std.proofs.lemmas.Option.{slice_get-get_or}
-use Rattle.few.proofs.Pushing.{pushed, push_fits}
+use Rattle.few.proofs.Pushing.{pushed}
 use Rattle.few.specs.Held.{held}
 use Rattle.language.specs.declared.record.Record.TheVariants.{Routine}
-use Rattle.translation.proofs.Collecting.{none_yet, one_more, room, all_known}
+use Rattle.translation.proofs.Collecting.{one_more, room, all_known}
 use Rattle.translation.proofs.addresses.find_addresses.Goals as goal
-
-pub loop-next-init : goal.loop-next-init
-loop-next-init c = none_yet c.args.records.now c.nowhere-scope.result (held c.new-of.result) 0 c.nowhere-scope.ensures c.new-of.ensures refl
-
-pub unwrap-requires : goal.unwrap-requires
-unwrap-requires c =
-    let few : length (held c.loop-next.of) < 256 = omega (arith, c.loop-next.invariant.long, c.loop-next-test.true, c.requires.legible.few) in
-    push_fits 256 (held c.loop-next.of) c.loop-next.words c.push.result (held c.push.new.self) few c.push.ensures
 
 pub overflow_add-words : goal.overflow_add-words
 overflow_add-words c =

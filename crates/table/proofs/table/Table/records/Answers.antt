@@ -4,7 +4,7 @@ use Rattle.language.proofs.Props.{known_formed}
 use Rattle.table.specs.Checked.{records_of}
 use Rattle.table.proofs.table.Table.records.Goals as goal
 
-pub returns : goal.returns
-returns c =
+pub returns-clause-formed : goal.returns-clause-formed
+returns-clause-formed c =
     let m = c.args.self.now in
-    record { same = c.as_slice.ensures; formed = subst WellFormed (sym c.as_slice.ensures) (known_formed (records_of m) m.formed) }
+    subst WellFormed (sym c.as_slice.ensures) (known_formed (records_of m) m.formed)

@@ -1,4 +1,4 @@
-use Rattle.std.proofs.Common.{ℕ, ◌+◌, ◌<◌, List, length, get_or, sym, ap, subst, add-one, arith, rules}
+use Rattle.std.proofs.Common.{ℕ, ◌+◌, ◌<◌, List, length, get_or, sym, ap, subst, add-one, arith}
 use Rattle.language.proofs.Props.{known_formed}
 use Rattle.language.specs.WellFormed.{WellFormed}
 use Rattle.translation.proofs.Starting.{entry_below, entry_is}
@@ -16,12 +16,6 @@ low c =
     let t = laid_out c.args.self.now in
     let m = c.main.result in
     omega (arith, add-one m.place, entry_below t (formed c) m.place m.parameters c.main.ensures.locals c.main.ensures.here, (formed c).legible.few)
-
-pub overflow_add-result : goal.overflow_add-result
-overflow_add-result c = let l = low (goal.at.overflow_add-result c).After-main in search rules
-
-pub offset_bounds-as_slice-main : goal.offset_bounds-as_slice-main
-offset_bounds-as_slice-main c = let l = low (goal.at.offset_bounds-as_slice-main c).After-main in search rules
 
 pub bounds-as_slice-main : goal.bounds-as_slice-main
 bounds-as_slice-main c =

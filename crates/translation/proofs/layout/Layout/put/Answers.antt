@@ -6,11 +6,8 @@ use Rattle.language.specs.declared.record.Record.TheVariants.{Routine}
 use Rattle.language.specs.Bytes.{InRange}
 use Rattle.language.proofs.Lists.{all_nth}
 use Rattle.translation.specs.Layouts.{laid_out}
-use Rattle.translation.proofs.Tabling.{tabled_start, record_room, tabled_more, tabled_count, tabled_after}
+use Rattle.translation.proofs.Tabling.{record_room, tabled_more, tabled_count, tabled_after}
 use Rattle.translation.proofs.layout.Layout.put.Goals as goal
-
-pub loop-next-init : goal.loop-next-init
-loop-next-init c = tabled_start (laid_out c.args.self.now) c.nowhere-scope.result c.args.out.now c.nowhere-scope.ensures
 
 pub put_record-at-requires : goal.put_record-at-requires
 put_record-at-requires c =
