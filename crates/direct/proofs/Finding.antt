@@ -1,7 +1,5 @@
 -- What is found by name stands in the table.
-use Rattle.std.proofs.Common.{◌≡◌, ℕ, suc, ◌+◌, ◌<◌, ◌≤◌, List, length, Some, None, Option, ap, ◌∙◌, add-one, arith}
-use Rattle.std.specs.List.{slice_get}
-use Rattle.direct.specs.Links.{own_handler_of, Leads}
+use Rattle.std.proofs.Common.{◌≡◌, ℕ, ◌<◌, ◌≤◌, List, length, Some, None, Option, arith}
 use Rattle.direct.specs.declared.link.Target.{Target}
 use Rattle.language.proofs.Lines.{length-lines}
 use Rattle.language.proofs.Lists.{nth_below, place_in}

@@ -1,11 +1,10 @@
 -- The frames that stand, the newest first, where the newest is the last of a list.
-use Rattle.std.proofs.Common.{◌≡◌, List, [], ◌∷◌, ◌++◌, map, length, ap, ◌∙◌}
+use Rattle.std.proofs.Common.{◌≡◌, [], ◌∷◌, ◌++◌, map, length, ap, ◌∙◌}
 use Rattle.std.proofs.lemmas.List.{length-map, length-reverse, reverse-append}
 use Rattle.direct.specs.Views.{frame_of, standing}
 use Rattle.direct.specs.declared.frame.Frame.{Frame}
 use Rattle.few.specs.Held.{held}
 use Rattle.few.specs.declared.few.Few.{Few}
-use Rattle.language.specs.Runs.{Frame as Saved}
 use Rattle.std.specs.Prelude.{reverse}
 
 -- one more is the newest

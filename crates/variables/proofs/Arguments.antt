@@ -1,5 +1,5 @@
 -- Arguments put into variables: what is made of a function of the place holds at each place.
-use Rattle.std.proofs.Common.{◌≡◌, ℕ, zero, suc, ◌+◌, ◌-◌, ◌<◌, ◌≤◌, ◌⊎◌, List, ◌++◌, length, get_or, replicate, ℤ, pos, inl, inr, refl, sym, ap, ◌∙◌, subst, arith, length-append}
+use Rattle.std.proofs.Common.{◌≡◌, ℕ, zero, suc, ◌+◌, ◌-◌, ◌<◌, ◌≤◌, ◌⊎◌, List, length, get_or, replicate, ℤ, pos, inl, inr, refl, sym, ap, ◌∙◌, subst, arith, length-append}
 use denote.Param.Members.{Mut}
 use lib.ListN.{length-replicate, get_or-append, get_or-eq_default}
 use Rattle.std.proofs.lemmas.Bool.{cases_eq, cases_lt}

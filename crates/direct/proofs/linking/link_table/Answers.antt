@@ -1,7 +1,7 @@
-use Rattle.std.proofs.Common.{◌≡◌, Ok, List, [], ◌∷◌, ◌++◌, ◌+◌, length, get_or, sym, ap, ◌∙◌, subst, arith, rules}
+use Rattle.std.proofs.Common.{◌≡◌, List, [], ◌∷◌, ◌++◌, ◌+◌, length, get_or, sym, ap, ◌∙◌, subst, arith, rules}
 use Rattle.direct.proofs.Made.{Made, one_made, all_made}
 use Rattle.direct.proofs.linking.link_table.Goals as goal
-use Rattle.few.specs.Held.{held, Pushed}
+use Rattle.few.specs.Held.{held}
 use Rattle.language.specs.declared.record.Record.{Record}
 use Rattle.language.specs.declared.record.Record.TheVariants.{Routine}
 use Rattle.std.proofs.lemmas.Option.{slice_get-get_or}

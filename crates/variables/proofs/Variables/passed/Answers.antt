@@ -1,4 +1,4 @@
-use Rattle.std.proofs.Common.{◌≡◌, ◌≤◌, map, length, get_or, pos, sym, subst, rules}
+use Rattle.std.proofs.Common.{◌≤◌, map, length, sym, subst, rules}
 use lib.ListN.{length-map}
 use Rattle.language.specs.Runs.{variable_count, value}
 use Rattle.variables.proofs.Arguments.{placed}

@@ -1,6 +1,6 @@
 use Rattle.std.proofs.Common.{w32, to_z, of_z, rules}
 use Rattle.continuation.proofs.Programs.{formed}
-use Rattle.continuation.proofs.Rules.{few, by_answer, by_fault}
+use Rattle.continuation.proofs.Rules.{by_answer, by_fault}
 use Rattle.continuation.proofs.machine.Machine.ask.Goals as goal
 use Rattle.continuation.specs.Machines.{configuration}
 use Rattle.continuation.specs.Programs.{records_in}

@@ -1,10 +1,9 @@
-use Rattle.std.proofs.Common.{◌≡◌, ℕ, ◌≤◌, List, length, take, drop, Ok, Err, Result, refl, subst, ap, ◌∙◌, arith, rules}
+use Rattle.std.proofs.Common.{ℕ, ◌≤◌, List, length, Ok, Err, Result, refl, arith}
 use Rattle.continuation.proofs.program.Program.new.Goals as goal
 use Rattle.language.proofs.Props.{known_formed}
 use Rattle.language.proofs.Sizes.{held}
 use Rattle.language.specs.Code.{code}
 use Rattle.language.specs.declared.record.Record.{Record}
-use Rattle.std.proofs.lemmas.List.{take_at}
 use Rattle.std.specs.Result.{IsOk}
 use Rattle.table.specs.Checked.{records_of}
 use Rattle.translation.specs.Answers.{Translates}
@@ -20,4 +19,3 @@ unwrap-requires c =
     let t = records_of c.args.table in
     let h = held t (known_formed t c.args.table.formed) in
     room t _ c.translate_table.new.out c.translate_table.result c.translate_table.ensures (omega (arith, h.words, h.bytes))
-

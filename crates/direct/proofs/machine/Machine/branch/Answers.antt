@@ -1,6 +1,6 @@
 use Rattle.std.proofs.Common.{rules}
 use Rattle.direct.proofs.Programs.{formed}
-use Rattle.direct.proofs.Rules.{at_below, by_branch, by_branch_not}
+use Rattle.direct.proofs.Rules.{by_branch, by_branch_not}
 use Rattle.direct.proofs.machine.Machine.branch.Goals as goal
 use Rattle.direct.specs.Machines.{state_of}
 use Rattle.direct.specs.Programs.{records_in}

@@ -1,6 +1,6 @@
-use Rattle.std.proofs.Common.{◌≡◌, ◌≤◌, true, [], length, take, sym, subst, arith, length-take-le, rules}
+use Rattle.std.proofs.Common.{◌≡◌, ◌≤◌, length, take, sym, subst, arith, length-take-le, rules}
 use Rattle.direct.proofs.Programs.{formed, low}
-use Rattle.direct.proofs.Rules.{at_below, by_called}
+use Rattle.direct.proofs.Rules.{by_called}
 use Rattle.direct.proofs.machine.Machine.call_routine.Goals as goal
 use Rattle.direct.proofs.machine.Machine.call_routine.Goals.{After-from}
 use Rattle.direct.specs.Machines.{state_of, Called}

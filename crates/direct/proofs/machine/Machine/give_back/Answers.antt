@@ -1,4 +1,4 @@
-use Rattle.std.proofs.Common.{◌≡◌, [], ◌++◌, ◌∷◌, Some, None, ap, subst, w32, to_z, of_z, rules}
+use Rattle.std.proofs.Common.{◌≡◌, Some, None, subst, w32, to_z, of_z, rules}
 use Rattle.direct.proofs.Rules.{by_return, by_finish}
 use Rattle.direct.proofs.Standing.{newest, none_stand}
 use Rattle.direct.proofs.machine.Machine.give_back.Goals as goal

@@ -1,5 +1,4 @@
 use Rattle.std.proofs.Common.{w32, to_z, of_z, rules}
-use Rattle.direct.proofs.Programs.{low}
 use Rattle.direct.proofs.Rules.{by_answer, by_fault}
 use Rattle.direct.proofs.machine.Machine.request.Goals as goal
 use Rattle.direct.specs.Machines.{state_of}

@@ -1,4 +1,4 @@
-use Rattle.std.proofs.Common.{◌≡◌, ◌<◌, List, get_or, length, ap, sym, ◌∙◌, subst, arith}
+use Rattle.std.proofs.Common.{◌≡◌, List, get_or, ap, sym, ◌∙◌, subst}
 use Rattle.direct.proofs.Known.{known_linked}
 use Rattle.direct.proofs.program.Program.link.Goals as goal
 use Rattle.direct.specs.Links.{no_link}
