@@ -23,6 +23,7 @@ pub enum Fault {
 }
 
 impl Fault {
+    // one for each enum: no generic function reads the value of a case
     /// The number that the fault is known by outside.
     pub fn number(self) -> i32
         ensures { result ≡ fault_number self }

@@ -9,6 +9,7 @@ pub enum SetUpRefusal {
 }
 
 impl SetUpRefusal {
+    // one for each enum: no generic function reads the value of a case
     /// The number that the refusal is known by outside.
     pub fn number(self) -> i32
         ensures { result ≡ set_up_number self }
@@ -25,6 +26,7 @@ pub enum ShiftRefusal {
 }
 
 impl ShiftRefusal {
+    // one for each enum: no generic function reads the value of a case
     /// The number that the refusal is known by outside.
     pub fn number(self) -> i32
         ensures { result ≡ shift_number self }

@@ -1,4 +1,3 @@
-pub mod Lettering
 pub mod Coding
 pub mod Programs
 pub mod Rules

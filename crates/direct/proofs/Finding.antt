@@ -1,17 +1,9 @@
 -- What is found by name stands in the table.
-use Rattle.std.proofs.Common.{◌≡◌, ℕ, ◌<◌, ◌≤◌, List, length, Some, None, Option, arith}
-use Rattle.direct.specs.declared.link.Target.{Target}
+use Rattle.std.proofs.Common.{◌≡◌, ℕ, ◌<◌, List, length, Some, None, arith}
 use Rattle.language.proofs.Lines.{length-lines}
 use Rattle.language.proofs.Lists.{nth_below, place_in}
-use Rattle.language.proofs.Props.{known_formed}
 use Rattle.language.specs.Lines.{lines, heads_routine, heads_block, routine_place, block_place}
-use Rattle.language.specs.declared.handler.Handler.{Handler}
 use Rattle.language.specs.declared.record.Record.{Record}
-use Rattle.table.specs.Checked.{records_of}
-use Rattle.table.specs.declared.table.Table.{Table}
-
-pub few_records : (m : Table) → length (records_of m) ≤ 256
-few_records m = (known_formed (records_of m) m.formed).legible.few
 
 pub routine_below : (t : List Record) (g j : ℕ) → routine_place t g ≡ Some j → j < length t
 routine_below t g j e = let f = place_in (heads_routine g) t j e in nth_below t j f.0 f.1
@@ -20,7 +12,3 @@ pub block_below : (t : List Record) (r l j : ℕ) → block_place t r l ≡ Some
 block_below t r l j e =
     let f = place_in (heads_block r l) (lines t) j e in
     omega (arith, nth_below (lines t) j f.0 f.1, length-lines t 0 0 None)
-
--- two targets are the same by their parts
-pub opening : {i j : ℕ} {h g : Option Handler} → i ≡ j → h ≡ g → ◌≡◌ {A = Target} (record { at = i; handler = h }) (record { at = j; handler = g })
-opening e d k = record { at = e k; handler = d k }

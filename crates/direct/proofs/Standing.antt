@@ -1,6 +1,6 @@
 -- The frames that stand, the newest first, where the newest is the last of a list.
-use Rattle.std.proofs.Common.{◌≡◌, [], ◌∷◌, ◌++◌, map, length, ap, ◌∙◌}
-use Rattle.std.proofs.lemmas.List.{length-map, length-reverse, reverse-append}
+use Rattle.std.proofs.Common.{◌≡◌, [], ◌∷◌, ◌++◌, map, ap, ◌∙◌}
+use Rattle.std.proofs.lemmas.List.{reverse-append}
 use Rattle.direct.specs.Views.{frame_of, standing}
 use Rattle.direct.specs.declared.frame.Frame.{Frame}
 use Rattle.few.specs.Held.{held}
@@ -10,10 +10,6 @@ use Rattle.std.specs.Prelude.{reverse}
 -- one more is the newest
 pub newest : (xs : Few Frame 32) (ys : Few Frame 32) (f : Frame) → held ys ≡ held xs ++ f ∷ [] → standing ys ≡ frame_of f ∷ standing xs
 newest xs ys f e = ap (λ l. map frame_of (reverse l)) e ∙ ap (map frame_of) (reverse-append (held xs) (f ∷ []))
-
--- as many stand as are held
-pub standing_length : (xs : Few Frame 32) → length (standing xs) ≡ length (held xs)
-standing_length xs = length-map (reverse (held xs)) frame_of ∙ length-reverse (held xs)
 
 -- none stands where nothing is held
 pub none_stand : (xs : Few Frame 32) → held xs ≡ [] → standing xs ≡ []

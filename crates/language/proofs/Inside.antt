@@ -1,6 +1,6 @@
 -- For a loop that makes a beat step by step: what it carries along from step to step, what it has at the
 -- end, and that each step finds its word and its cell.
-use Rattle.std.proofs.Common.{◌≡◌, ℕ, suc, ◌+◌, ◌<◌, ◌≤◌, true, false, List, length, Some, ap, ◌∙◌, subst, arith}
+use Rattle.std.proofs.Common.{◌≡◌, ℕ, suc, ◌+◌, ◌<◌, ◌≤◌, false, List, length, Some, ap, ◌∙◌, subst, arith}
 use Rattle.std.specs.List.{slice_get}
 use Rattle.bench.specs.declared.state.State.{State as Standing}
 use Rattle.language.specs.Code.{code}
@@ -8,11 +8,10 @@ use Rattle.language.specs.CodeWords.{WordAt}
 use Rattle.language.specs.Configurations.{Landing, Cell, Configuration}
 use Rattle.language.specs.Continuation.{CodeStep, CodeBeat}
 use Rattle.language.specs.Following.{Follows, FollowsRun, Going, Inside}
-use Rattle.language.specs.Runs.{Run, running, ended}
-use Rattle.language.specs.Steps.{Fetches, Step, set_to, assign, subtract, answered, fault, save, exhaust, enter, jump, resume, finish, throw, uncaught, test, test_not, Marks, Rest, over, opens, small, beat}
+use Rattle.language.specs.Runs.{Run, running}
+use Rattle.language.specs.Steps.{Fetches, Step, set_to, assign, subtract, answered, fault, save, exhaust, enter, jump, resume, finish, throw, uncaught, test, test_not, Marks, Rest, opens, small, beat}
 use Rattle.language.specs.Translation.{translation}
 use Rattle.language.specs.WellFormed.{WellFormed}
-use Rattle.language.specs.declared.ending.Ending.{Ending}
 use Rattle.language.specs.declared.operation.Operation.{Operation}
 use Rattle.language.specs.declared.operation.Operation.TheVariants.{Set, Assign, Subtract, Ask, Save, Enter, Jump, Resume, Test, Throw}
 use Rattle.language.specs.declared.record.Record.{Record}
@@ -109,24 +108,3 @@ module _ (t : List Record) (ok : WellFormed t) where
             whole = subst (λ i. CodeBeat t s b i u e) q whole;
             few = omega arith;
           }
-
-  pub inside_below : (s z : Configuration) (b c : Standing) (k : ℕ) → Inside t s b k (running z) c → Marks At z false → k < 18
-  inside_below s z b c k g low = by g.few g.going.rest
-    where
-      by : {n : ℕ} {u : Run Configuration} {e : Standing} → k + n ≤ 18 → Rest At (running z) c n u e → k < 18
-      by few (opens m) = one_mark At one m low
-      by few (small m σ γ) = omega arith
-
-  -- at a word that opens a beat, or at an ending, the beat is made
-  pub inside_closes : (s z : Configuration) (b c : Standing) (k : ℕ) → Inside t s b k (running z) c → Marks At z true → CodeBeat t s b k (running z) c × Follows t z
-  inside_closes s z b c k g high = by g.going.follows g.whole g.going.rest
-    where
-      by : {n : ℕ} {u : Run Configuration} {e : Standing} → FollowsRun t u → CodeBeat t s b (k + n) u e → Rest At (running z) c n u e → CodeBeat t s b k (running z) c × Follows t z
-      by f whole (opens m) = let q : k + 0 ≡ k = omega arith in (subst (λ i. CodeBeat t s b i (running z) c) q whole, f)
-      by f whole (small m σ γ) = one_mark At one high m
-
-  pub inside_ends : (s : Configuration) (b c : Standing) (k : ℕ) (e : Ending) → Inside t s b k (ended e) c → CodeBeat t s b k (ended e) c
-  inside_ends s b c k e g = by g.whole g.going.rest
-    where
-      by : {n : ℕ} {u : Run Configuration} {d : Standing} → CodeBeat t s b (k + n) u d → Rest At (ended e) c n u d → CodeBeat t s b k (ended e) c
-      by whole over = let q : k + 0 ≡ k = omega arith in subst (λ i. CodeBeat t s b i (ended e) c) q whole

@@ -15,6 +15,7 @@ pub enum RecordCause {
 }
 
 impl RecordCause {
+    // one for each enum: no generic function reads the value of a case
     /// The number that the cause is known by outside.
     pub fn number(self) -> u8
         ensures { result ≡ record_number_of self }
@@ -37,6 +38,7 @@ pub enum BlockCause {
 }
 
 impl BlockCause {
+    // one for each enum: no generic function reads the value of a case
     /// The number that the cause is known by outside.
     pub fn number(self) -> u8
         ensures { result ≡ block_number_of self }
@@ -65,6 +67,7 @@ pub enum NameCause {
 }
 
 impl NameCause {
+    // one for each enum: no generic function reads the value of a case
     /// The number that the cause is known by outside.
     pub fn number(self) -> u8
         ensures { result ≡ name_number_of self }

@@ -11,6 +11,8 @@ use super::line::Line;
 use super::pairing::Pairing;
 use bench::Request;
 
+// a match and no table of functions: the check sees which form each keyword has
+
 /// What a text says after a keyword.
 pub fn form(keyword: Keyword, text: &[u8]) -> Result<Line, Expected>
     ensures { MatchResult result (Says keyword (words text.now)) (Blames (fields keyword) (words text.now)) }

@@ -23,6 +23,7 @@ impl Section {
         ensures alike { IfOk result (λ v. first_answers v.items ≡ second_answers v.items) }
     {
         let counts = self.pairing.counts;
+        // a match on the kind: the two kinds are two types, and no bench is handed out behind a pointer
         match self.pairing.first {
             Kind::Site => self.perform_beside(heap, SiteBench::set_up(counts)),
             Kind::Log => self.perform_beside(heap, LogBench::set_up(counts)),

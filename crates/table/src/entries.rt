@@ -16,6 +16,7 @@ impl Entry for RoutineEntry {
 
     ghost keyed = { λ e. e.identifier };
 
+    // the law of the key, which each impl has to show
     ghost agrees = { Prim.search rules };
 
     fn key(&self) -> u8 {
@@ -42,6 +43,7 @@ impl Entry for BlockEntry {
 
     ghost keyed = { λ e. e.key };
 
+    // the law of the key, which each impl has to show
     ghost agrees = { Prim.search rules };
 
     fn key(&self) -> BlockKey {

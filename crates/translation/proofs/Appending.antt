@@ -1,5 +1,5 @@
 -- One run of bytes written after another.
-use Rattle.std.proofs.Common.{◌≡◌, ℕ, zero, suc, ◌+◌, List, [], ◌∷◌, ◌++◌, pos, sym, ap, ◌∙◌, append_assoc, append-nil, add-zero, arith, length-append}
+use Rattle.std.proofs.Common.{◌≡◌, ℕ, zero, suc, ◌+◌, List, [], ◌∷◌, ◌++◌, pos, sym, ap, ◌∙◌, append_assoc, add-zero, arith, length-append}
 use Rattle.std.specs.List.{flat_map}
 use Rattle.std.proofs.lemmas.List.{flat_map_more}
 use Rattle.language.specs.declared.operation.Operation.TheVariants.{Set}
@@ -7,9 +7,6 @@ use Rattle.language.specs.declared.word.Word.{Word}
 use Rattle.language.specs.Code.{word_bytes}
 use Rattle.language.specs.Translation.{small, clears}
 use Rattle.translation.specs.Buffers.{over, Appends}
-
-pub none_appends : (at : ℕ) (out : List ℕ) → Appends at [] out out at
-none_appends at out = record { next = sym (add-zero at); after = λ front base a o. o ∙ ap (λ f. over f base) (sym (append-nil front)) }
 
 pub then_appends : (at m r : ℕ) (bs cs out out' out'' : List ℕ) → Appends at bs out out' m → Appends m cs out' out'' r → Appends at (bs ++ cs) out out'' r
 then_appends at m r bs cs out out' out'' p q = record {

@@ -61,6 +61,8 @@ fn letter(word: Word) -> u8
     }
 }
 
+// by match: a case with fields has no value of its own
+
 /// The capital letter of an operation.
 fn capital(operation: Operation) -> u8
     ensures { result ≡ letter_of operation }

@@ -18,6 +18,8 @@ use bench::{Bench, Request};
 use language::{Ending, Operation, Progress, Word};
 
 impl Machine {
+    // alike to a beat from the table in part, and no shared code: that the two agree is what is proved of them
+
     /// One step: does what the word says at which the run stands.
     pub fn step<B: Bench>(&mut self, program: &Program, word: Word, bench: &mut B) -> Progress
         requires here { WordAt (code (records_in program.now)) self.old.counter word }

@@ -4,6 +4,8 @@ ghost use Rattle.table.specs.Faults.{fault_layer, fault_cause, fault_place};
 use super::{Located, TableFault};
 
 impl TableFault {
+    // by match: a case with a field has no value of its own
+
     /// The number of the layer that found the fault, 1 to 3.
     pub fn layer(self) -> u8
         ensures { result ≡ fault_layer self }
