@@ -3,6 +3,8 @@ ghost use Rattle.continuation.specs.Decoding.{Decodes, Reads};
 
 use language::{Operation, Word};
 
+// a function, and no `TryFrom`: both types are of other crates
+
 /// The word that eight bytes stand for, if they stand for one.
 pub fn decode(bytes: [u8; 8]) -> Option<Word>
     ensures { Decodes bytes result }

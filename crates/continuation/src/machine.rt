@@ -7,8 +7,8 @@ mod step;
 
 /// A run between two steps: the program counter, the variables, register 16, the continuation and the
 /// handler, which are cells told by their place, or the outermost, and the cells.
-// that it stands between two steps is said of machine, table and bench together, and that a word stands at
-// the program counter holds before a step and not after each move, so neither is an invariant
+// what the rules reach is said of machine, table and bench together, and that a word stands at the counter holds
+// before a step and not after each move: no invariants, and program and bench are handed on
 #[derive(Drop)]
 pub struct Machine {
     pub counter: u16,

@@ -4,6 +4,7 @@ ghost use Rattle.table.specs.Checked.{records_of};
 ghost use Rattle.translation.specs.Addressing.{EntryAddress};
 
 use table::Table;
+use translation::MOST_BYTES;
 
 mod reading;
 
@@ -12,7 +13,7 @@ mod reading;
 #[derive(Drop)]
 pub struct Program {
     pub table: Table,
-    code: [u8; 7808],
+    code: [u8; MOST_BYTES],
     entry: u16,
     ghost long: { length code ≡ 7808 },
     ghost coded: { take (length (code_of (records_of table))) code ≡ code_of (records_of table) },

@@ -1,5 +1,5 @@
 -- What the names in a table's records stand for, looked up beforehand.
-use Rattle.std.specs.Prelude.{◌≡◌, ℕ, suc, ◌<◌, List, length, Some, None, Option, slice_index_or}
+use Rattle.std.specs.Prelude.{◌≡◌, ℕ, suc, List, length, Some, None, Option, slice_index_or}
 use Rattle.std.specs.List.{slice_get}
 use Rattle.language.specs.Lines.{line, lines, Heads, Enters}
 use Rattle.language.specs.declared.handler.Handler.{Handler}
@@ -16,10 +16,6 @@ own_handler_of (Block l h) = h
 own_handler_of (Body i) = None
 
 module _ (t : List Record) where
-  -- a heading that was found stands in the table
-  abbrev pub Within : Option ℕ → Type 0
-  Within f = (j : ℕ) → f ≡ Some j → j < length t
-
   -- the target is the record after a heading that was found, under the handler that the heading has
   abbrev pub Opens : Option ℕ → Target → Type 0
   Opens f k = (j : ℕ) (x : Record) → f ≡ Some j → slice_get t j ≡ Some x → k ≡ record { at = suc j; handler = own_handler_of x }

@@ -1,8 +1,8 @@
 //! The names in a table, looked up once for each record.
 
-ghost use Rattle.std.specs.Prelude.{◌≡◌, ◌<◌, length, Some};
+ghost use Rattle.std.specs.Prelude.{◌≡◌, ◌<◌, length, IfSome, Some};
 ghost use Rattle.std.specs.List.{slice_get};
-ghost use Rattle.direct.specs.Links.{own_handler_of, Within, Opens, Leads, EntersAt, LinkedBy, HandledBy, Linked};
+ghost use Rattle.direct.specs.Links.{own_handler_of, Opens, Leads, EntersAt, LinkedBy, HandledBy, Linked};
 ghost use Rattle.few.specs.Held.{held};
 ghost use Rattle.table.specs.Checked.{records_of};
 
@@ -88,7 +88,7 @@ fn routine_target(table: &Table, identifier: u8) -> Target
 
 /// The first instruction under a heading, which is under the handler that the heading has.
 fn target(table: &Table, heading: Option<usize>) -> Target
-    requires { Within (records_of table.now) heading }
+    requires { IfSome heading (λ place. place < length (records_of table.now)) }
     ensures { Opens (records_of table.now) heading result }
 {
     match heading {

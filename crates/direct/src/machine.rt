@@ -9,8 +9,7 @@ mod raise;
 
 /// A run between two beats: the routine that runs, the handler of its block, the place of its record,
 /// its variables and the frames that stand.
-// that the rules reach its state is said of machine and table together, so not by an invariant: a machine
-// does not hold the table, which stays when the run is dropped
+// what the rules reach is said of machine and table together: no invariant, and program and bench are handed on
 #[derive(Drop)]
 pub struct Machine {
     pub routine: u8,

@@ -9,8 +9,7 @@ use table::{MOST_RECORDS, Table};
 mod reading;
 
 /// A table that is ready to run: with the links of its records.
-// the links lie beside the records, each at the place of its record: in the records there is no room for
-// them, and a list of both would be a second form of the table
+// the links lie beside the records: those have no room for them, and a list of both would be a second table
 #[derive(Drop)]
 pub struct Program {
     pub table: Table,

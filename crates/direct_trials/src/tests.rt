@@ -24,12 +24,12 @@ fn went(answer: Result<Gone, GoRefusal>) -> Result<(i32, i32, u32), i32> {
             progress::value(gone.progress),
             gone.beats,
         )),
-        Err(refusal) => Err(refusal as i32),
+        Err(refusal) => Err(refusal.number()),
     }
 }
 
 fn started(answer: Result<(), StartRefusal>) -> Result<(), i32> {
-    answer.map_err(|refusal| refusal as i32)
+    answer.map_err(|refusal| refusal.number())
 }
 
 #[test]

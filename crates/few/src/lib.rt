@@ -1,5 +1,5 @@
 //! A list of at most so many values, in memory of a fixed size: what the machine's stated bounds are
-//! kept in, its records, headings, frames, cells and placements.
+//! kept in: records, headings, links, addresses, frames, cells, placements, and the words of an instruction.
 #![tactic(auto)]
 
 pub mod few;

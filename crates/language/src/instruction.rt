@@ -1,5 +1,7 @@
 /// One of the nine forms. Variables are `x`, `y`, `z`, by number, the parameters first; the last
 /// four forms close a block.
+// fields and no structs or lists inside the cases: the rules name the fields of each form, and what stands in the
+// places of arguments that are not passed is a rule of the table
 #[derive(Clone, Copy, PartialEq, Eq, Debug)]
 pub enum Instruction {
     /// Sets `x` to `value`.

@@ -1,6 +1,7 @@
 //! The language of routine tables: its records and instructions, when a table is well formed, and
 //! why one is refused. What a reader has to believe stands in specs/; the theorems about it are
-//! named by the contracts of `theorems`. There is no other code here.
+//! named by the contracts of `theorems`. Beside them there are only numbers: of causes,
+//! refusals and progress, and of beats asked for.
 #![tactic(auto)]
 
 pub mod agreement;

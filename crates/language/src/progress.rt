@@ -8,6 +8,8 @@ use super::ending::Ending;
 /// ending, as an error does.
 pub type Progress = Result<(), Ending>;
 
+// by match: a case with a field has no value of its own
+
 /// The number that it is known by outside.
 pub fn number(progress: Progress) -> i32
     ensures { result ≡ pos (progress_number (run_of progress)) }

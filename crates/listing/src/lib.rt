@@ -13,6 +13,7 @@ use translation::{MOST_BYTES, TranslationFault, translate_bytes};
 pub fn list_table(heap: Global, bytes: &[u8]) -> Result<String, AllocError>
     ensures { IfOk result (λ s. Lists bytes.now (string_bytes s)) }
 {
+    // the translator writes into memory that its caller has, and tells how much of it
     let mut code = [0; MOST_BYTES];
     match translate_bytes(bytes, &mut code) {
         Ok(written) => code_text(heap, &code[..written]),

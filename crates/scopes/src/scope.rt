@@ -5,6 +5,7 @@ use language::{Handler, Record};
 
 /// What a record stands under: its routine, how many variables that routine has, and the handler of
 /// its block.
+// walked with by each loop that needs it: as `scan` the two lines would be a closure that changes what it holds
 #[derive(Clone, Copy)]
 pub struct Scope {
     pub routine: u8,

@@ -6,7 +6,7 @@ use Rattle.bench.specs.Numbers.{fault_number, set_up_number, shift_number}
 use Rattle.bench.specs.declared.state.State as bench
 use Rattle.std.specs.List.{flat_map}
 use Rattle.std.specs.Fmt.{signed_decimal}
-use Rattle.table.specs.Faults.{fault_text}
+use Rattle.table.specs.Faults.{numbers_text}
 use Rattle.script.specs.declared.answer.Answer.{Answer}
 use Rattle.script.specs.declared.answer.Answer.TheVariants.{Done, SetUpRefused, ShiftRefused, TableRefused, Number, Fault, State}
 
@@ -43,7 +43,7 @@ abbrev pub answer_text : Answer → List ℕ
 answer_text Done = codes "ok"
 answer_text (SetUpRefused r) = codes "refused " ++ signed_decimal (set_up_number r)
 answer_text (ShiftRefused r) = codes "refused " ++ signed_decimal (shift_number r)
-answer_text (TableRefused f) = codes "refused " ++ fault_text f
+answer_text (TableRefused layer cause place) = codes "refused " ++ numbers_text layer cause place
 answer_text (Number n) = codes "number " ++ signed_decimal n
 answer_text (Fault f) = codes "fault " ++ signed_decimal (fault_number f)
 answer_text (State s) = state_text_of s

@@ -7,7 +7,6 @@ use super::state::StateWords;
 use bench::{Fault, SetUpRefusal, ShiftRefusal, State};
 use std::alloc::{AllocError, Global};
 use std::fmt;
-use table::TableFault;
 
 /// What an event is answered with.
 #[derive(Clone, Copy, PartialEq, Eq, Debug)]
@@ -16,7 +15,9 @@ pub enum Answer {
     Done,
     SetUpRefused(SetUpRefusal),
     ShiftRefused(ShiftRefusal),
-    TableRefused(TableFault),
+    /// A table is refused: by which layer of the check, for which cause, at which place.
+    // numbers and no `TableFault`: what could be told of any refusal still can, and is printed
+    TableRefused { layer: u8, cause: u8, place: usize },
     Number(i32),
     Fault(Fault),
     State(State),
@@ -31,7 +32,11 @@ impl fmt::Display for Answer {
             Answer::Done => f.write_str("ok"),
             Answer::SetUpRefused(refusal) => write!(f, "refused {}", refusal.number()),
             Answer::ShiftRefused(refusal) => write!(f, "refused {}", refusal.number()),
-            Answer::TableRefused(fault) => write!(f, "refused {fault}"),
+            Answer::TableRefused {
+                layer,
+                cause,
+                place,
+            } => write!(f, "refused {layer} {cause} {place}"),
             Answer::Number(number) => write!(f, "number {number}"),
             Answer::Fault(fault) => write!(f, "fault {}", fault.number()),
             Answer::State(state) => write!(f, "{}", StateWords(state)),

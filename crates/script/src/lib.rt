@@ -7,6 +7,7 @@
 //! |---|---|---|
 //! | `bench KIND KIND c0 … c7` | two benches, each `site` or `log`, with eight counts | `ok` or `refused N` |
 //! | `turn z` | both benches turned by a shift | `ok` or `refused N` |
+//! | `load HEX` | a table checked, pairs of hexadecimal digits or `-` | `ok` or `refused LAYER CAUSE PLACE` |
 //! | `jog o y` | one request, operation and number | `number N` or `fault N` |
 //! | `state` | the state | `state SITE ANGLE NOZZLE counts c0 … c7 bin N sites S:F:A …` |
 //!

@@ -1,6 +1,7 @@
 //! Outcomes as answers.
 ghost use Rattle.std.specs.Prelude.{◌≡◌, MatchResult};
 ghost use Rattle.script.specs.declared.answer.Answer.TheVariants.{Done, SetUpRefused, ShiftRefused, TableRefused, Number, Fault as Faulted, State as Standing};
+ghost use Rattle.table.specs.Faults.{fault_layer, fault_cause, fault_place};
 
 use super::answer::Answer;
 use bench::{Fault, SetUpRefusal, ShiftRefusal, State};
@@ -40,10 +41,14 @@ impl From<ShiftRefusal> for Answer {
 }
 
 impl From<TableFault> for Answer {
-    ghost from_gives = { λ f a. a ≡ TableRefused f };
+    ghost from_gives = { λ f a. a ≡ TableRefused (fault_layer f) (fault_cause f) (fault_place f) };
 
     fn from(fault: TableFault) -> Answer {
-        Answer::TableRefused(fault)
+        Answer::TableRefused {
+            layer: fault.layer(),
+            cause: fault.cause(),
+            place: fault.place(),
+        }
     }
 }
 

@@ -1,9 +1,7 @@
 use bench::{Angle, Fault, Feeder, Part, SetUpRefusal, ShiftRefusal, Site, State};
-use language::NameCause;
 use script::{Answer, Expected, pair_text};
 use std::process::Abort;
 use std::test::*;
-use table::{NameFault, TableFault};
 
 const FRESH: State = State {
     site: Site::FIRST,
@@ -80,11 +78,11 @@ fn a_used_state(rt: HostRuntime) -> Result<(), Fail> {
 
 #[test]
 fn refused_tables(rt: HostRuntime) -> Result<(), Fail> {
-    let fault = NameFault {
-        cause: NameCause::NoMain,
+    let refused = Answer::TableRefused {
+        layer: 3,
+        cause: 11,
         place: 256,
     };
-    let refused = Answer::TableRefused(TableFault::Names(fault));
     writes(&rt, refused, "refused 3 11 256")
 }
 

@@ -16,6 +16,7 @@ use Rattle.bench.proofs.SetUps.{Setting, Turning, same_set_up, same_turn}
 use Rattle.script.specs.declared.answer.Answer.{Answer}
 use Rattle.session.specs.Answering.{set_up_answer_of, turn_answer_of, report}
 use Rattle.session.specs.Events.{Does}
+use Rattle.session.specs.BothPerforms.{BothPerform}
 use Rattle.session.specs.Performs.{Performs, GoesOn, states}
 use Rattle.session.specs.Performs.Performs.{plain, turned}
 use Rattle.session.specs.declared.event.Event.{Event}
@@ -93,7 +94,7 @@ same_performance x us vs (turned {z = z} {r = r} {q = q} {a = k} {s = s} {t = t}
     let last : t ≡ t' = end.1 in
     cc
 
--- what both benches answered is the same, since each performs the section
-pub both_alike : (x : Section) (r : Result (Vec Exchange Global) AllocError) → IfOk r (λ v. Performs x (first_answers (vec_items v))) → IfOk r (λ v. Performs x (second_answers (vec_items v))) →
-    IfOk r (λ v. first_answers (vec_items v) ≡ second_answers (vec_items v))
-both_alike x r = made_both r _ _ _ (λ v. same_performance x (first_answers (vec_items v)) (second_answers (vec_items v)))
+-- each bench performs the section, and so what both answered is the same
+pub both_perform : (x : Section) (r : Result (Vec Exchange Global) AllocError) → IfOk r (λ v. Performs x (first_answers (vec_items v))) → IfOk r (λ v. Performs x (second_answers (vec_items v))) →
+    IfOk r (λ v. BothPerform x (vec_items v))
+both_perform x r = made_both r _ _ _ (λ v a b. record { first = a; second = b; alike = same_performance x (first_answers (vec_items v)) (second_answers (vec_items v)) a b })

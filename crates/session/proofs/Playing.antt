@@ -9,15 +9,12 @@ use Rattle.bench.proofs.Rules.{same_answer, same_after}
 use Rattle.language.specs.Refusals.{Refused}
 use Rattle.language.specs.WellFormed.{WellFormedBytes}
 use Rattle.language.proofs.Refusals.{refused_once, sound_accepted}
-use Rattle.table.specs.Faults.{fault_layer, fault_cause, fault_place}
-use Rattle.table.specs.declared.fault.TableFault.{TableFault}
 use Rattle.script.specs.declared.answer.Answer.{Answer}
 use Rattle.script.specs.declared.answer.Answer.TheVariants.{Done, TableRefused}
 use Rattle.session.specs.Answering.{outcome, reply}
 use Rattle.session.specs.Events.{Does, accepts, refuses, jogs}
 use Rattle.session.specs.declared.event.Event.{Event}
 use Rattle.session.specs.declared.event.Event.TheVariants.{Load, Jog}
-use Rattle.session.proofs.Faults.{same_fault}
 
 -- one event is another
 pub event_is : (s t : Standing) (e d : Event) (a : Answer) → e ≡ d → Does s e a t → Does s d a t
@@ -35,10 +32,8 @@ by_outcome f g (Err e) a h = h
 pub accepted : (s : Standing) (e : Event) (v : Vec ℕ Global) (bs : List ℕ) → e ≡ Load v → bs ≡ vec_items v → WellFormedBytes bs → Does s e Done s
 accepted s e v bs is same h = event_is s s (Load v) e Done (sym is) (accepts (subst WellFormedBytes same h))
 
-pub refused : (s : Standing) (e : Event) (v : Vec ℕ Global) (bs : List ℕ) (f : TableFault) (a : Answer) → e ≡ Load v → bs ≡ vec_items v → a ≡ TableRefused f →
-    Refused bs (fault_layer f) (fault_cause f) (fault_place f) → Does s e a s
-refused s e v bs f a is same as-told h =
-    event_is s s (Load v) e a (sym is) (subst (λ b. Does s (Load v) b s) (sym as-told) (refuses (subst (λ b. Refused b (fault_layer f) (fault_cause f) (fault_place f)) same h)))
+pub refused : (s : Standing) (e : Event) (v : Vec ℕ Global) (bs : List ℕ) (l c p : ℕ) (a : Answer) → e ≡ Load v → bs ≡ vec_items v → a ≡ TableRefused l c p → Refused bs l c p → Does s e a s
+refused s e v bs l c p a is same as-told h = event_is s s (Load v) e a (sym is) (subst (λ b. Does s (Load v) b s) (sym as-told) (refuses (subst (λ b. Refused b l c p) same h)))
 
 pub jogged : (s t : Standing) (e : Event) (q : Request) (r : Reply) (a : Answer) → e ≡ Jog q → a ≡ reply r → Responds s q.operation q.number r t → Does s e a t
 jogged s t e q r a is as-told h = subst (λ d. Does s d a t) (sym is) (subst (λ b. Does s (Jog q) b t) (sym as-told) (jogs h))
@@ -47,8 +42,11 @@ pub one_answer : Deterministic Does
 one_answer s e a a' t t' (accepts h) (accepts k) = (refl, refl)
 one_answer s e a a' t t' (accepts h) (refuses k) = absurd (sound_accepted _ h _ _ _ k)
 one_answer s e a a' t t' (refuses h) (accepts k) = absurd (sound_accepted _ k _ _ _ h)
-one_answer s e a a' t t' (refuses {v = v} {f = f} h) (refuses {f = g} k) =
-    let same = refused_once (vec_items v) _ _ _ _ _ _ h k in
-    (ap TableRefused (same_fault f g same.0 same.1 same.2), refl)
+one_answer s e a a' t t' (refuses {v = v} {l = l} {c = c} {p = p} h) (refuses {l = l'} {c = c'} {p = p'} k) =
+    let same = refused_once (vec_items v) l c p l' c' p' h k in
+    let el : l ≡ l' = same.0 in
+    let ec : c ≡ c' = same.1 in
+    let ep : p ≡ p' = same.2 in
+    (cc, refl)
 one_answer s e a a' t t' (jogs {q = q} {r = r} h) (jogs {r = r'} k) =
     (ap reply (same_answer s q.operation q.number r r' t t' h k), same_after s q.operation q.number r r' t t' h k)

@@ -6,8 +6,6 @@ use Rattle.bench.specs.declared.request.Request.{Request}
 use Rattle.bench.specs.declared.state.State.{State as Standing}
 use Rattle.language.specs.Refusals.{Refused}
 use Rattle.language.specs.WellFormed.{WellFormedBytes}
-use Rattle.table.specs.Faults.{fault_layer, fault_cause, fault_place}
-use Rattle.table.specs.declared.fault.TableFault.{TableFault}
 use Rattle.script.specs.declared.answer.Answer.{Answer}
 use Rattle.script.specs.declared.answer.Answer.TheVariants.{Done, TableRefused}
 use Rattle.session.specs.Answering.{reply}
@@ -18,6 +16,6 @@ pub data Does (s : Standing) : Event → Answer → Standing → Type 0 where
   -- the bytes of a well-formed table are accepted
   accepts : {v : Vec ℕ Global} → WellFormedBytes (vec_items v) → Does s (Load v) Done s
   -- other bytes are refused, by layer, cause and place
-  refuses : {v : Vec ℕ Global} {f : TableFault} → Refused (vec_items v) (fault_layer f) (fault_cause f) (fault_place f) → Does s (Load v) (TableRefused f) s
+  refuses : {v : Vec ℕ Global} {l c p : ℕ} → Refused (vec_items v) l c p → Does s (Load v) (TableRefused l c p) s
   -- a request is answered as the bench's rules say
   jogs : {q : Request} {r : Reply} {t : Standing} → Responds s q.operation q.number r t → Does s (Jog q) (reply r) t

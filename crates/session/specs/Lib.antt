@@ -3,3 +3,4 @@ pub mod Events
 pub mod Plays
 pub mod Lines
 pub mod Performs
+pub mod BothPerforms

@@ -1,6 +1,7 @@
 ghost use Rattle.std.specs.Prelude.{◌≡◌, ◌++◌, IfOk};
 ghost use Rattle.bench.specs.SetUps.{SetsUp};
 ghost use Rattle.session.specs.Performs.{Performs, GoesOn, states};
+ghost use Rattle.session.specs.BothPerforms.{BothPerform};
 ghost use Rattle.session.specs.Plays.{first_answers, second_answers};
 
 use super::exchange::Exchange;
@@ -37,9 +38,7 @@ impl Section {
         first: SetUp<P>,
     ) -> Result<Vec<Exchange>, AllocError>
         requires { SetsUp self.now.pairing.counts first.1 (P.Bench.state first.0) }
-        ensures first { IfOk result (λ v. Performs self.now (first_answers v.items)) }
-        ensures second { IfOk result (λ v. Performs self.now (second_answers v.items)) }
-        ensures alike { IfOk result (λ v. first_answers v.items ≡ second_answers v.items) }
+        ensures { IfOk result (λ v. BothPerform self.now v.items) }
     {
         let counts = self.pairing.counts;
         match self.pairing.second {
@@ -57,9 +56,7 @@ impl Section {
     ) -> Result<Vec<Exchange>, AllocError>
         requires first { SetsUp self.now.pairing.counts first.1 (P.Bench.state first.0) }
         requires second { SetsUp self.now.pairing.counts second.1 (Q.Bench.state second.0) }
-        ensures first { IfOk result (λ v. Performs self.now (first_answers v.items)) }
-        ensures second { IfOk result (λ v. Performs self.now (second_answers v.items)) }
-        ensures alike { IfOk result (λ v. first_answers v.items ≡ second_answers v.items) }
+        ensures { IfOk result (λ v. BothPerform self.now v.items) }
     {
         let (first, first_outcome) = first;
         let (second, second_outcome) = second;

@@ -5,7 +5,7 @@ ghost use Rattle.table.specs.Rows.{Decodes, Reads};
 
 use language::{Handler, Instruction, Record, RecordCause};
 
-// a function, and no `TryFrom`: both types are of other crates
+// a function, and no `TryFrom`: both types are of other crates. What it promises of the inverse is shown of the rows
 
 /// The record that eight bytes stand for, or the lowest cause that they stand for none.
 pub fn decode(bytes: [u8; 8]) -> Result<Record, RecordCause>

@@ -17,6 +17,8 @@ impl Variables {
     /// All 0.
     pub const ZERO: Variables = Variables { values: [0; 16] };
 
+    // the bound is asked of a slice: who starts or calls a routine knows how many arguments it takes
+
     /// Those of a routine that is started with these arguments: they come first, the others are 0.
     pub fn started_with(arguments: &[i32]) -> Variables
         requires { length arguments.now ≤ variable_count }

@@ -18,6 +18,8 @@ use language::Progress;
 const MOST_STEPS: u32 = 18;
 
 impl Machine {
+    // a pair and no `Made`: it is one beat, so none are counted
+
     /// One beat: the word that opens it, and then the rest. Tells where the run is, and how many steps were
     /// made.
     pub fn beat<B: Bench>(&mut self, program: &Program, bench: &mut B) -> (Progress, u32)

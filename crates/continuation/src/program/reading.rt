@@ -9,14 +9,14 @@ use super::super::decoding::decode;
 use super::Program;
 use language::Word;
 use table::Table;
-use translation::{entry_address, translate_table};
+use translation::{MOST_BYTES, entry_address, translate_table};
 
 impl Program {
     /// Makes a table ready to run: translates it.
     pub fn new(table: Table) -> Program
         ensures { result.table ≡ table }
     {
-        let mut code = [0; 7808];
+        let mut code = [0; MOST_BYTES];
         translate_table(&table, &mut code).unwrap();
         let entry = entry_address(&table);
         Program { table, code, entry }

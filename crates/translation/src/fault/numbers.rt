@@ -4,6 +4,8 @@ ghost use Rattle.translation.specs.Numbers.{refusal_layer, refusal_cause, refusa
 use super::TranslationFault;
 
 impl TranslationFault {
+    // by match: a case with a field has no value of its own
+
     /// The number of the layer that found the fault, 1 to 4.
     pub fn layer(self) -> u8
         ensures { result ≡ refusal_layer self }

@@ -4,7 +4,7 @@ use Rattle.std.proofs.lemmas.Int.{to_z-of_z}
 use Rattle.bench.specs.SetUps.{SetsUp, TurnsBy}
 use Rattle.session.specs.Answering.{set_up_answer_of, turn_answer_of}
 use Rattle.session.specs.Plays.{first_answers, second_answers}
-use Rattle.session.proofs.Performing.{plain_performs, turned_performs, both_alike}
+use Rattle.session.proofs.Performing.{plain_performs, turned_performs, both_perform}
 use Rattle.session.proofs.section.Section.perform_on.Goals as goal
 
 pub returns-in_default : goal.returns-in_default
@@ -16,7 +16,7 @@ returns-in_default g c =
     let second : second_answers before ≡ set_up_answer_of c.args.second.1 ∷ [] = search rules in
     let h = IfOk-weaker _ _ _ (λ v. plain_performs x _ _ (first_answers before) (first_answers (vec_items v)) unturned c.requires.first first) c.go_on.ensures.first in
     let k = IfOk-weaker _ _ _ (λ v. plain_performs x _ _ (second_answers before) (second_answers (vec_items v)) unturned c.requires.second second) c.go_on.ensures.second in
-    record { first = h; second = k; alike = both_alike x _ h k }
+    both_perform x _ h k
 
 pub returns : goal.returns
 returns g c =
@@ -34,4 +34,4 @@ returns g c =
     let second-set = subst (λ b. SetsUp x.pairing.counts c.args.second.1 (g.Q.Bench.state b)) (sym c.new-second.ensures.below) c.requires.second in
     let h = IfOk-weaker _ _ _ (λ v. turned_performs x z _ _ _ _ (first_answers before) (first_answers (vec_items v)) by first-set first-turn first) c.go_on-2.ensures.first in
     let k = IfOk-weaker _ _ _ (λ v. turned_performs x z _ _ _ _ (second_answers before) (second_answers (vec_items v)) by second-set second-turn second) c.go_on-2.ensures.second in
-    record { first = h; second = k; alike = both_alike x _ h k }
+    both_perform x _ h k
