@@ -5,6 +5,8 @@ use super::event::Event;
 use super::exchange::Exchange;
 use bench::Bench;
 
+// two benches and no pair of them: they are of two types, and each is lent on its own
+
 /// Gives each event to both benches in turn, and fills a slot with what they answered: as many events
 /// as there are slots. Each bench answers and ends as the rules say. Benches that start equal, of one
 /// type or of two, answer alike to each event and are equal after each.
