@@ -22,6 +22,7 @@ impl<B: Bench> TurnedBench<B> {
         ensures shift { TurnsBy shift result.1 result.0.shift }
         ensures below { result.0.below ≡ below }
     {
+        // a match: each case gives a shift and an answer
         let (shift, answer) = match Angle::new(shift) {
             Some(angle) => (angle, Ok(())),
             None => (Angle::ZERO, Err(ShiftRefusal::ShiftOutOfRange)),
@@ -36,6 +37,7 @@ fn sight_under(shift: Angle, seen: i32) -> i32
     ensures { (p : Spotted) → seen ≡ sight p → result ≡ sight (spot_under shift p) }
 {
     let turn = FULL_TURN as i32;
+    // a match: with `map_or` the proof did not close
     match Angle::new(seen % turn) {
         Some(angle) => seen / turn * turn + angle.read_under(shift).get() as i32,
         None => seen,

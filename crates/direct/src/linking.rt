@@ -12,6 +12,8 @@ use language::{Handler, Instruction, Record};
 use scopes::Scope;
 use table::{MOST_RECORDS, Table};
 
+// each function takes the table alone, and none asks anything of it
+
 /// The links of a table's records.
 pub fn link_table(table: &Table) -> Few<Link, MOST_RECORDS>
     ensures { Linked (records_of table.now) (held result) }
@@ -66,10 +68,10 @@ fn link(table: &Table, scope: Scope, next: Record) -> Link
 fn handler_target(table: &Table, scope: Scope) -> Target
     ensures { HandledBy (records_of table.now) scope.routine scope.handler result }
 {
-    match scope.handler {
-        Some(handler) => block_target(table, scope.routine, handler.label),
-        None => Target::NOWHERE,
-    }
+    scope.handler.map_or(
+        Target::NOWHERE,
+        |handler| block_target(table, scope.routine, handler.label),
+    )
 }
 
 /// Where a jump to a block leads.
@@ -91,13 +93,13 @@ fn target(table: &Table, heading: Option<usize>) -> Target
     requires { IfSome heading (λ place. place < length (records_of table.now)) }
     ensures { Opens (records_of table.now) heading result }
 {
-    match heading {
-        Some(place) => Target {
+    heading.map_or(
+        Target::NOWHERE,
+        |place| Target {
             at: place as u16 + 1,
             handler: own_handler(record_at(table, place)),
         },
-        None => Target::NOWHERE,
-    }
+    )
 }
 
 /// The handler of the block that a record heads.

@@ -55,6 +55,7 @@ pub fn table(text: &[u8]) -> Result<((), &[u8]), Expected>
 pub fn end(text: &[u8]) -> Result<(), Expected>
     ensures { MatchResult result (λ _. words text.now ≡ []) (λ e. (e ≡ Expected.End) × (words text.now ≢ [])) }
 {
+    // a match: no word is the good case
     match next_word(text) {
         None => Ok(()),
         Some(_) => Err(Expected::End),

@@ -38,6 +38,7 @@ impl Line {
     pub fn table(heap: Global, text: &[u8]) -> Result<Vec<u8>, AllocError>
         ensures { IfOk result (λ v. v.items ≡ table_bytes (words text.now)) }
     {
+        // a match: a closure that allocates cannot be handed to `map_or`
         match next_word(text).and_then(|(_, rest)| next_word(rest)) {
             Some((word, _)) => hex::bytes(heap, word),
             None => Ok(Vec::new(heap)),

@@ -55,6 +55,7 @@ impl Machine {
             }
             progress = self.step(program, word, bench);
         }
+        // the loop ends before: no beat has more steps
         unreachable()
     }
 }

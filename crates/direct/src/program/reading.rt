@@ -25,6 +25,7 @@ impl Program {
     {
         match record_at(&self.table, usize::from(at)) {
             Record::Body(i) => i,
+            // a run stands at instructions only
             _ => unreachable(),
         }
     }
