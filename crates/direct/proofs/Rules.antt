@@ -8,7 +8,7 @@ use Rattle.bench.specs.Responds.{Answer, Responds}
 use Rattle.bench.specs.declared.fault.Fault.{Fault}
 use Rattle.bench.specs.declared.state.State.{State as Standing}
 use Rattle.direct.specs.Links.{Leads}
-use Rattle.direct.specs.Machines.{entered, Called}
+use Rattle.direct.specs.Machines.{entered, Called, Resumed}
 use Rattle.direct.specs.Programs.{LinkAt}
 use Rattle.direct.specs.declared.link.Link.{Link}
 use Rattle.direct.specs.declared.link.Target.{Target}
@@ -158,6 +158,11 @@ module _ (t : List Record) (s s' : State) (b : Standing) (x : ℕ) (v : ℤ) (ev
 
   pub by_finish : (p : Result (Unit {0}) Ending) → s.frames ≡ [] → p ≡ Err (Returned v) → Beat t s b (progressed p s') b
   by_finish p none ep = subst (λ q. Beat t s b (progressed q s') b) (sym ep) (subst (λ u. Beat t s b (ended (Returned u)) b) (sym ev) (finish e none))
+
+  -- a return, whatever comes of it
+  pub by_resumed : (r : Option (Unit {0})) (p : Result (Unit {0}) Ending) → ((d : Unit {0}) → r ≡ Some d → p ≡ Ok d) → (r ≡ None → p ≡ Err (Returned v)) → Resumed s v r s' → Beat t s b (progressed p s') b
+  by_resumed (Some d) p some none (f, fs, at, is) = subst (λ q. Beat t s b (progressed q s') b) (sym (some d refl)) (by_return f fs at is)
+  by_resumed None p some none (at, is) = by_finish p at (none refl)
 
 -- the bench's answer, as its contract tells it
 module _ (t : List Record) (s : State) (b b' : Standing) (x op y : ℕ) (e : slice_get t s.at ≡ Some (Body (Request x op y))) (a : Answer) (o n : ℤ)

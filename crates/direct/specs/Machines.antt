@@ -1,9 +1,9 @@
 -- What the machine stands for in the rules, and what its moves do.
-use Rattle.std.specs.Prelude.{◌≡◌, ℕ, ◌<◌, List, ◌∷◌, map, length, None, Ok, Err, Option, Result}
+use Rattle.std.specs.Prelude.{◌≡◌, ℕ, ◌<◌, List, [], ◌∷◌, map, length, ℤ, Some, None, Ok, Err, Option, Result}
 use Rattle.direct.specs.Views.{standing}
 use Rattle.direct.specs.declared.machine.Machine.{Machine}
 use Rattle.few.specs.declared.full.Full.{Full}
-use Rattle.language.specs.Runs.{frame_count, State, value, with_arguments, saved}
+use Rattle.language.specs.Runs.{frame_count, Frame as Saved, State, value, with_arguments, saved, returned_to}
 use Rattle.language.specs.declared.handler.Handler.{Handler}
 
 abbrev pub state_of : Machine → State
@@ -19,3 +19,12 @@ Called s x g at ys (Ok d) s' =
     (length s.frames < frame_count)
     × (s' ≡ record { routine = g; handler = None; at = at; variables = with_arguments (map (value s.variables) ys); frames = saved s x ∷ s.frames })
 Called s x g at ys (Err e) s' = (length s.frames ≡ frame_count) × (s' ≡ s)
+
+-- a return to the newest frame, with this result; where no frame stands, nothing has changed
+abbrev pub Resumed : State → ℤ → Option (Unit {0}) → State → Type 0
+Resumed s v (Some d) s' = (f : Saved) × (fs : List Saved) × (s.frames ≡ f ∷ fs) × (s' ≡ returned_to f fs v)
+Resumed s v None s' = (s.frames ≡ []) × (s' ≡ s)
+
+-- what is left where nobody takes what is raised: all frames are given up, and nothing else has changed
+abbrev pub frameless : State → State
+frameless s = record { routine = s.routine; handler = s.handler; at = s.at; variables = s.variables; frames = [] }

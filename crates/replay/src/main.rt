@@ -19,11 +19,8 @@ struct Script {
 }
 
 impl Script {
-    /// Takes the text of one more line in. A section that ends with it is performed.
-    fn take(&mut self, rt: &HostRuntime, text: &[u8]) -> Result<(), Stop> {
-        let Some(line) = Line::read(text)? else {
-            return Ok(());
-        };
+    /// Takes one more line in, which stands in this text. A section that ends with it is performed.
+    fn take(&mut self, rt: &HostRuntime, line: Line, text: &[u8]) -> Result<(), Stop> {
         self.position = self.position.after(line)?;
         if let Line::Bench(pairing) = line {
             self.finish(rt)?;
@@ -57,7 +54,14 @@ fn run(rt: &HostRuntime) -> anyhow::Result<()> {
     };
     let lines = BufReader::new(rt.alloc(), rt.stdin())?.split(rt.alloc(), b'\n');
     for (number, text) in (1u64..).zip(lines) {
-        match script.take(rt, &text?) {
+        let text = text?;
+        let taken = match Line::read(&text) {
+            Ok(Some(line)) => script.take(rt, line, &text),
+            // a line that asks nothing costs no more than its reading
+            Ok(None) => continue,
+            Err(expected) => Err(Stop::Unread(expected)),
+        };
+        match taken {
             Ok(()) => {}
             Err(Stop::Unread(expected)) => {
                 script.finish(rt)?;

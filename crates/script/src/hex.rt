@@ -9,7 +9,13 @@ use std::alloc::{AllocError, Global};
 fn digit(byte: u8) -> Option<u8>
     ensures { SomeIff result (digit_value byte < 16) (digit_value byte) }
 {
-    Some(char::from(byte).to_digit(16)? as u8)
+    // by ranges: a load line is read twice, digit by digit, and `to_digit` takes longer
+    match byte {
+        b'0'..=b'9' => Some(byte - b'0'),
+        b'a'..=b'f' => Some(byte - b'a' + 10),
+        b'A'..=b'F' => Some(byte - b'A' + 10),
+        _ => None,
+    }
 }
 
 /// Whether a word is made of pairs of digits.

@@ -1,6 +1,7 @@
 -- What two benches answered through a section is what the rules say, and the same.
-use Rattle.std.proofs.Common.{◌≡◌, ℕ, Bool, true, false, List, [], ◌∷◌, ◌++◌, map, length, take, ℤ, IfOk, Some, None, Ok, Err, vec_items, Result, Vec, sym, refl, ap, ◌∙◌, subst, arith}
-use Rattle.std.proofs.lemmas.List.{append_assoc, map-append, take_all}
+use Rattle.std.proofs.Common.{◌≡◌, ℕ, ◌+◌, ◌-◌, Bool, true, false, List, [], ◌∷◌, ◌++◌, map, length, take, drop, replicate, ℤ, IfOk, Some, None, Ok, Err, vec_items, Result, Vec, sym, refl, ap, ◌∙◌, subst, arith}
+use Rattle.std.proofs.Math.Seq.{take-append_seam, drop-append_seam}
+use Rattle.std.proofs.lemmas.List.{append_assoc, length-replicate, map-append, take_all}
 use Rattle.std.specs.declared.alloc.AllocError.{AllocError}
 use Rattle.std.specs.declared.alloc.Global.{Global}
 use Rattle.session.specs.Plays.{first_answers, second_answers}
@@ -28,6 +29,18 @@ use Rattle.session.proofs.Playing.{one_answer}
 pub made_both : {X Y : Type 0} (r : Result X Y) (P Q R : X → Type 0) → ((x : X) → P x → Q x → R x) → IfOk r P → IfOk r Q → IfOk r R
 made_both (Ok x) P Q R f h k = f x h k
 made_both (Err y) P Q R f h k = tt
+
+-- a list of k exchanges with n places more: what it held, and as many places
+pub widened : (before wide : List Exchange) (k n e : ℕ) (x : Exchange) → k ≡ length before → e ≡ k + n → wide ≡ take e before ++ replicate (e - length before) x →
+    (take k wide ≡ before) × (length (drop k wide) ≡ n)
+widened before wide k n e x here sum is =
+    let more = replicate (e - length before) x in
+    let held : take e before ≡ before = take_all e before (omega arith) in
+    let whole : wide ≡ before ++ more = is ∙ ap (λ l. l ++ more) held in
+    let many : e - length before ≡ n = omega arith in (
+      ap (λ i. take i wide) here ∙ ap (take (length before)) whole ∙ take-append_seam before more,
+      ap (λ i. length (drop i wide)) here ∙ ap (λ l. length (drop (length before) l)) whole ∙ ap length (drop-append_seam before more) ∙ length-replicate (e - length before) x ∙ many,
+    )
 
 -- one of the two benches, from the slots that its answers stand in
 pub goes_on : (x : Section) (s t : State) (f : Exchange → Answer) (es : List Event) (slots unfilled : List Exchange) (before extra all : List Exchange) →

@@ -29,11 +29,15 @@ pub by_outcome : {X E : Type 0} (f : X → Answer) (g : E → Answer) (r : Resul
 by_outcome f g (Ok x) a h = h
 by_outcome f g (Err e) a h = h
 
-pub accepted : (s : Standing) (e : Event) (v : Vec ℕ Global) (bs : List ℕ) → e ≡ Load v → bs ≡ vec_items v → WellFormedBytes bs → Does s e Done s
-accepted s e v bs is same h = event_is s s (Load v) e Done (sym is) (accepts (subst WellFormedBytes same h))
+-- bytes that are to be loaded, answered as the check finds them
+pub accepted : (s : Standing) (v : Vec ℕ Global) (bs : List ℕ) → bs ≡ vec_items v → WellFormedBytes bs → Does s (Load v) Done s
+accepted s v bs same h = accepts (subst WellFormedBytes same h)
 
-pub refused : (s : Standing) (e : Event) (v : Vec ℕ Global) (bs : List ℕ) (l c p : ℕ) (a : Answer) → e ≡ Load v → bs ≡ vec_items v → a ≡ TableRefused l c p → Refused bs l c p → Does s e a s
-refused s e v bs l c p a is same as-told h = event_is s s (Load v) e a (sym is) (subst (λ b. Does s (Load v) b s) (sym as-told) (refuses (subst (λ b. Refused b l c p) same h)))
+pub refused : (s : Standing) (v : Vec ℕ Global) (bs : List ℕ) (l c p : ℕ) (a : Answer) → bs ≡ vec_items v → a ≡ TableRefused l c p → Refused bs l c p → Does s (Load v) a s
+refused s v bs l c p a same as-told h = subst (λ b. Does s (Load v) b s) (sym as-told) (refuses (subst (λ b. Refused b l c p) same h))
+
+pub loaded : (s : Standing) (e : Event) (v : Vec ℕ Global) (a : Answer) → e ≡ Load v → Does s (Load v) a s → Does s e a s
+loaded s e v a is h = event_is s s (Load v) e a (sym is) h
 
 pub jogged : (s t : Standing) (e : Event) (q : Request) (r : Reply) (a : Answer) → e ≡ Jog q → a ≡ reply r → Responds s q.operation q.number r t → Does s e a t
 jogged s t e q r a is as-told h = subst (λ d. Does s d a t) (sym is) (subst (λ b. Does s (Jog q) b t) (sym as-told) (jogs h))

@@ -1,13 +1,14 @@
-ghost use Rattle.std.specs.Prelude.{◌≡◌, ◌++◌, IfOk};
+ghost use Rattle.std.specs.Prelude.{◌≡◌, ◌≤◌, ◌++◌, length, take, drop, IfOk};
 ghost use Rattle.bench.specs.SetUps.{SetsUp};
 ghost use Rattle.session.specs.Performs.{Performs, GoesOn, states};
 ghost use Rattle.session.specs.BothPerforms.{BothPerform};
-ghost use Rattle.session.specs.Plays.{first_answers, second_answers};
+ghost use Rattle.session.specs.Plays.{BothPlayed, first_answers, second_answers};
 
+use super::event::Event;
 use super::exchange::Exchange;
 use super::play::play_both;
 use super::section::Section;
-use bench::SetUpRefusal;
+use bench::{Bench, SetUpRefusal};
 use benches::{Inspect, LogBench, SiteBench, TurnedBench};
 use script::{Answer, Kind};
 use std::alloc::{AllocError, Global};
@@ -92,12 +93,30 @@ impl Section {
             first: Answer::Done,
             second: Answer::Done,
         };
-        let mut slots = vec![in heap; unanswered; self.events.len()]?;
-        play_both(&mut first, &mut second, &self.events, &mut slots);
+        // one list, with room from the start for all that is answered: nothing is kept twice or moved
+        let start = before.len();
+        let end = start.checked_add(self.events.len()).ok_or(AllocError)?;
         let mut exchanges = before;
-        exchanges.extend_from_slice(&slots)?;
+        exchanges.reserve_exact(self.events.len().saturating_add(1))?;
+        exchanges.resize(end, unanswered)?;
+        play_after(&mut first, &mut second, &self.events, &mut exchanges, start);
         with_states(exchanges, self.state, &first, &second)
     }
+}
+
+/// Gives events to both benches, and fills the slots behind the first `start` with what they answer.
+fn play_after<P: Bench, Q: Bench>(
+    first: &mut P,
+    second: &mut Q,
+    events: &[Event],
+    exchanges: &mut [Exchange],
+    start: usize,
+)
+    requires { start ≤ length exchanges.old }
+    ensures front { take start exchanges.new ≡ take start exchanges.old }
+    ensures played { BothPlayed events.now (drop start exchanges.old) (drop start exchanges.new) (P.Bench.state first.old) (Q.Bench.state second.old) (P.Bench.state first.new) (Q.Bench.state second.new) }
+{
+    play_both(first, second, events, &mut exchanges[start..]);
 }
 
 /// Adds the states of both benches to what was answered before, if they are asked for.

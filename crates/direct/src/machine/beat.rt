@@ -102,9 +102,7 @@ impl Machine {
         ensures { (t : List Recorded) (b : Standing) → slice_get t self.old.at ≡ Some (Body (Returns x)) → Beat t (state_of self.old) b (progressed result (state_of self.new)) b }
     {
         let value = self.variables.get(x);
-        let frame = self.frames.pop().ok_or(Ending::Returned(value))?;
-        self.resume(frame, value);
-        Ok(())
+        self.resume(value).ok_or(Ending::Returned(value))
     }
 
     /// Goes to one block if `x` is at most `y`, else to the other.

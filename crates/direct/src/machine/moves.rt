@@ -1,7 +1,6 @@
 ghost use Rattle.std.specs.Prelude.{◌≡◌, ◌<◌, ◌≤◌, [], ◌∷◌, length, None, slice_set};
-ghost use Rattle.direct.specs.Machines.{state_of, entered, Called};
-ghost use Rattle.direct.specs.Views.{frame_of};
-ghost use Rattle.language.specs.Runs.{variable_count, with_arguments, onward, returned_to};
+ghost use Rattle.direct.specs.Machines.{state_of, entered, Called, Resumed};
+ghost use Rattle.language.specs.Runs.{variable_count, with_arguments, onward};
 
 use super::super::frame::Frame;
 use super::super::link::Target;
@@ -63,14 +62,16 @@ impl Machine {
         Ok(())
     }
 
-    /// Goes on where a frame was saved, with this result.
-    pub fn resume(&mut self, frame: Frame, value: i32)
-        ensures { state_of self.new ≡ returned_to (frame_of frame) (state_of self.old).frames value }
+    /// Goes on where the newest frame was saved, with this result; or changes nothing, where none stands.
+    pub fn resume(&mut self, value: i32) -> Option<()>
+        ensures { Resumed (state_of self.old) value result (state_of self.new) }
     {
+        let frame = self.frames.pop()?;
         self.routine = frame.routine;
         self.handler = frame.handler;
         self.at = frame.next;
         self.variables = frame.variables;
         self.variables.set(frame.result, value);
+        Some(())
     }
 }

@@ -1,4 +1,5 @@
-ghost use Rattle.direct.specs.Machines.{state_of};
+ghost use Rattle.std.specs.Prelude.{◌≡◌, IfErr};
+ghost use Rattle.direct.specs.Machines.{state_of, frameless};
 ghost use Rattle.direct.specs.Programs.{records_in};
 ghost use Rattle.language.specs.Beats.{Raises};
 ghost use Rattle.language.specs.Progress.{progressed};
@@ -14,7 +15,8 @@ impl Machine {
     /// whose block has one, with what the frame saved. Where there is none either, the run ends.
     pub fn raise(&mut self, program: &Program, value: i32) -> Progress
         requires { Reachable (records_in program.now) (state_of self.old) }
-        ensures { Raises (records_in program.now) (state_of self.old) value (progressed result (state_of self.new)) }
+        ensures raises { Raises (records_in program.now) (state_of self.old) value (progressed result (state_of self.new)) }
+        ensures left { IfErr result (λ _. state_of self.new ≡ frameless (state_of self.old)) }
     {
         if let Some(handler) = self.handler {
             self.variables.set(handler.catch, value);

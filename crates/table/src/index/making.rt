@@ -15,18 +15,21 @@ impl Index {
         requires blocks { length (block_entries records.now) ≤ 64 }
         ensures { Indexes result records.now }
     {
-        let mut routines = Few::new(RoutineEntry {
-            identifier: 0,
-            parameters: 0,
-            place: 0,
-        });
-        let mut blocks = Few::new(BlockEntry {
-            key: BlockKey {
-                routine: 0,
-                label: 0,
-            },
-            place: 0,
-        });
+        // filled where it lies: lists put together at the end are copied entry by entry
+        let mut index = Index {
+            routines: Few::new(RoutineEntry {
+                identifier: 0,
+                parameters: 0,
+                place: 0,
+            }),
+            blocks: Few::new(BlockEntry {
+                key: BlockKey {
+                    routine: 0,
+                    label: 0,
+                },
+                place: 0,
+            }),
+        };
         let mut scope = Scope::nowhere();
         for (place, at) in records.iter().enumerate() {
             scope = scope.at(*at);
@@ -36,7 +39,8 @@ impl Index {
                     parameters,
                     ..
                 } => {
-                    routines
+                    index
+                        .routines
                         .push(RoutineEntry {
                             identifier,
                             parameters,
@@ -46,7 +50,8 @@ impl Index {
                 }
                 Record::Block { label, .. } => {
                     let routine = scope.routine;
-                    blocks
+                    index
+                        .blocks
                         .push(BlockEntry {
                             key: BlockKey { routine, label },
                             place,
@@ -56,6 +61,6 @@ impl Index {
                 Record::Body(_) => {}
             }
         }
-        Index { routines, blocks }
+        index
     }
 }

@@ -41,8 +41,8 @@ returns-in-Goto g c =
 
 pub returns-in_ok-raise-in-Raise : goal.returns-in_ok-raise-in-Raise
 returns-in_ok-raise-in-Raise g c =
-    by_raise (records_in c.args.program.now) (state_of c.args.self.now) _ _ (Ok tt) c.raise.result (search rules) c.in-Raise.x (to_z w32 (of_z w32 c.get-value-in-Raise.result)) (search rules) c.in-Raise.ensures c.raise.ensures
+    by_raise (records_in c.args.program.now) (state_of c.args.self.now) _ _ (Ok tt) c.raise.result (search rules) c.in-Raise.x (to_z w32 (of_z w32 c.get-value-in-Raise.result)) (search rules) c.in-Raise.ensures c.raise.ensures.raises
 
 pub returns-in_err-raise-in-Raise : goal.returns-in_err-raise-in-Raise
 returns-in_err-raise-in-Raise g c =
-    by_raise (records_in c.args.program.now) (state_of c.args.self.now) _ _ c.from_residual-in_err-raise-in-Raise.result c.raise.result (search rules) c.in-Raise.x (to_z w32 (of_z w32 c.get-value-in-Raise.result)) (search rules) c.in-Raise.ensures c.raise.ensures
+    by_raise (records_in c.args.program.now) (state_of c.args.self.now) _ _ c.from_residual-in_err-raise-in-Raise.result c.raise.result (search rules) c.in-Raise.x (to_z w32 (of_z w32 c.get-value-in-Raise.result)) (search rules) c.in-Raise.ensures c.raise.ensures.raises

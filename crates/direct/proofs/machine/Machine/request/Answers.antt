@@ -14,4 +14,4 @@ pub returns-in-Err : goal.returns-in-Err
 returns-in-Err g c =
     by_fault (records_in c.args.program.now) (state_of c.args.self.now) _ _ c.args.x c.args.operation c.args.y c.requires.here c.request.result
     (to_z w32 (of_z w32 c.from.result)) (to_z w32 (of_z w32 c.get-number.result)) (search rules) (search rules) c.request.ensures.answer c.request.ensures.after
-    c.in-Err.fault (to_z w32 (of_z w32 c.number.result)) _ c.in-Err.is (search rules) c.raise.ensures
+    c.in-Err.fault (to_z w32 (of_z w32 c.number.result)) _ c.in-Err.is (search rules) c.raise.ensures.raises
