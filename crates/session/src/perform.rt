@@ -93,7 +93,7 @@ impl Section {
             first: Answer::Done,
             second: Answer::Done,
         };
-        // one list, with room from the start for all that is answered: nothing is kept twice or moved
+        // one list, with room from the start for all that the events are answered with: nothing is kept twice
         let start = before.len();
         let end = start.checked_add(self.events.len()).ok_or(AllocError)?;
         let mut exchanges = before;
