@@ -93,11 +93,11 @@ impl Section {
             first: Answer::Done,
             second: Answer::Done,
         };
-        // one list, with room from the start for all that the events are answered with: nothing is kept twice
+        // one list, with room from the start for just what is added: nothing is kept twice
         let start = before.len();
         let end = start.checked_add(self.events.len()).ok_or(AllocError)?;
         let mut exchanges = before;
-        exchanges.reserve_exact(self.events.len().saturating_add(1))?;
+        exchanges.reserve_exact(self.events.len().saturating_add(usize::from(self.state)))?;
         exchanges.resize(end, unanswered)?;
         play_after(&mut first, &mut second, &self.events, &mut exchanges, start);
         with_states(exchanges, self.state, &first, &second)
